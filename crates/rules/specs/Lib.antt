@@ -1,0 +1,21 @@
+-- Document 01 as definitions, in its own order. Nothing here is proved, and nothing is assumed.
+pub mod Numbers
+pub mod Bytes
+pub mod Answers
+pub mod StationRecord
+pub mod StationFile
+pub mod Lines
+pub mod SampleFile
+pub mod Share
+pub mod Fuel
+pub mod Modes
+pub mod Flows
+pub mod Setpoint
+pub mod Configuration
+pub mod Commands
+pub mod RunRecord
+pub mod Row
+pub mod Second
+pub mod Sizing
+pub mod Run
+pub mod Cases
