@@ -43,12 +43,19 @@ unfoldable pub maskOf : ℕ → (ℕ → Bool) → ℕ
 maskOf zero p = 0
 maskOf (suc n) p = maskOf n p + (if p n then 2 ^ n else 0)
 
--- every test of a list
-abbrev pub all : List Bool → Bool
-all [] = true
-all (b ∷ bs) = b && all bs
+-- every test of a list holds: `all (a ∷ b ∷ c ∷ [])` computes to a && b && c
+abbrev pub allFrom : Bool → List Bool → Bool
+allFrom b [] = b
+allFrom b (c ∷ cs) = allFrom (b && c) cs
 
--- every number of a list is at most n; zero is "all zero"
-abbrev pub allAtMost : ℕ → List ℕ → Bool
-allAtMost n [] = true
-allAtMost n (x ∷ xs) = leb x n && allAtMost n xs
+abbrev pub all : List Bool → Bool
+all bs = allFrom true bs
+
+-- every element of a list passes a test
+unfoldable pub every : {A : Type 0} → (A → Bool) → List A → Bool
+every p [] = true
+every p (x ∷ xs) = p x && every p xs
+
+-- every number of a list is zero
+abbrev pub allZero : List ℕ → Bool
+allZero xs = every (λ x. eqb x 0) xs

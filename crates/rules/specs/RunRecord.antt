@@ -12,7 +12,7 @@ use Rattle.rules.specs.declared.run.SetState.{SetState}
 use Rattle.rules.specs.declared.run.Held.the-variants.{Absent}
 use Rattle.rules.specs.declared.run.Totals.{Totals}
 use Rattle.rules.specs.declared.run.Run.{Run}
-use Rattle.rules.specs.Numbers.{if_then_else_, within, has, allTo, tab, allAtMost}
+use Rattle.rules.specs.Numbers.{if_then_else_, within, has, allTo, tab, all, allZero}
 use Rattle.rules.specs.Answers.{Answer, accepted, refused, need, _>>=_, _>>_}
 use Rattle.rules.specs.StationRecord.{setAt, someFileGives}
 use Rattle.rules.specs.Modes.{fresh, stateAt, isOff}
@@ -61,17 +61,19 @@ modePossible g (Service n) = within 1 (g .service) n && ltb 0 (g .interval)
 -- "run seconds, service clock, starts, stops each <= done; energy <= rating x done; fuel <= 15,000,000,000 x done"
 abbrev pub countsPossible : GenSet → SetState → ℕ → Bool
 countsPossible g s done =
-    leb (s .run) done
-    && leb (s .clock) done
-    && leb (s .starts) done
-    && leb (s .stops) done
-    && leb (s .energy) (g .rating * done)
-    && leb (s .fuel) (15_000_000_000 * done)
+    all
+    (leb (s .run) done
+    ∷ leb (s .clock) done
+    ∷ leb (s .starts) done
+    ∷ leb (s .stops) done
+    ∷ leb (s .energy) (g .rating * done)
+    ∷ leb (s .fuel) (15_000_000_000 * done)
+    ∷ [])
 
 -- "all zero or Off beyond the existing sets"
 abbrev pub stateUnused : SetState → Bool
 stateUnused s =
-    isOff (s .mode) && allAtMost 0 (s .run ∷ s .clock ∷ s .starts ∷ s .stops ∷ s .energy ∷ s .fuel ∷ [])
+    isOff (s .mode) && allZero (s .run ∷ s .clock ∷ s .starts ∷ s .stops ∷ s .energy ∷ s .fuel ∷ [])
 
 unfoldable pub statePossible : Bool → GenSet → SetState → ℕ → Bool
 statePossible exists g s done =
@@ -84,27 +86,33 @@ statesPossible setcount sets states done =
 -- "station totals (solar offered and each watt column of the row) <= 50,000,000 x done"
 abbrev pub totalsPossible : Totals → ℕ → Bool
 totalsPossible t most =
-    leb (t .offered) most
-    && leb (t .load) most
-    && leb (t .shed) most
-    && leb (t .solar) most
-    && leb (t .charge) most
-    && leb (t .spill) most
-    && leb (t .give) most
-    && leb (t .diesel) most
-    && leb (t .unserved) most
+    all
+    (leb (t .offered) most
+    ∷ leb (t .load) most
+    ∷ leb (t .shed) most
+    ∷ leb (t .solar) most
+    ∷ leb (t .charge) most
+    ∷ leb (t .spill) most
+    ∷ leb (t .give) most
+    ∷ leb (t .diesel) most
+    ∷ leb (t .unserved) most
+    ∷ [])
 
 -- "decided shed amounts <= 50,000,000; all zero .. beyond .. the delay"
 unfoldable pub decidedPossible : ℕ → List ℕ → Bool
 decidedPossible delay amounts = allTo 60 (λ j. leb (getD amounts j 0) (if ltb j delay then 50_000_000 else 0))
 
 -- "The held setpoint may be absent or any number, NaN included": so nothing is asked of it
-unfoldable pub possible : Station → Run → Bool
-possible st r =
+abbrev pub recordRules : Station → Run → List Bool
+recordRules st r =
     leb (r .done) mostSeconds
-    && within (st .battery .least) (st .battery .most) (r .store)
-    && leb (r .called) (st .configcount)
-    && leb (r .since) (r .done)
-    && statesPossible (st .setcount) (st .sets) (r .sets) (r .done)
-    && totalsPossible (r .totals) (50_000_000 * r .done)
-    && decidedPossible (st .control .delay) (r .decided)
+    ∷ within (st .battery .least) (st .battery .most) (r .store)
+    ∷ leb (r .called) (st .configcount)
+    ∷ leb (r .since) (r .done)
+    ∷ statesPossible (st .setcount) (st .sets) (r .sets) (r .done)
+    ∷ totalsPossible (r .totals) (50_000_000 * r .done)
+    ∷ decidedPossible (st .control .delay) (r .decided)
+    ∷ []
+
+unfoldable pub possible : Station → Run → Bool
+possible st r = all (recordRules st r)

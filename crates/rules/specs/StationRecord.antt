@@ -2,14 +2,14 @@
 -- station records some file gives (25).
 use Prim.Native.Nat.{ℕ, zero, suc, _+_, _-_, _*_, _^_}
 use mathlib.Core.Bool.{Bool, true, false, _&&_}
-use mathlib.Core.List.{List, [], _∷_, map}
+use mathlib.Core.List.{List, [], _∷_}
 use lib.ListN.{length, take, drop, getD, replicate}
 use lib.Dec.{leb, ltb, eqb}
 use Rattle.rules.specs.declared.station.Control.{Control}
 use Rattle.rules.specs.declared.station.Battery.{Battery}
 use Rattle.rules.specs.declared.station.GenSet.{GenSet}
 use Rattle.rules.specs.declared.station.Station.{Station}
-use Rattle.rules.specs.Numbers.{if_then_else_, within, existingOnly, allTo, all, allAtMost}
+use Rattle.rules.specs.Numbers.{if_then_else_, within, existingOnly, allTo, all, every, allZero}
 use Rattle.rules.specs.Answers.{Answer, accepted, refused, need, isAccepted, _>>=_, _>>_}
 
 -- what a list of sets has past its end
@@ -37,40 +37,52 @@ noSet =
 -- ---- the values
 
 -- 4: "Control, nine 4-byte numbers"
-unfoldable pub controlRight : ℕ → Control → Bool
-controlRight setcount c =
+abbrev pub controlRules : ℕ → Control → List Bool
+controlRules setcount c =
     leb (c .spinning) 50_000_000
-    && leb (c .coverage) 100
-    && leb (c .minload) 100
-    && leb (c .shed) 100
-    && within 1 60 (c .delay)
-    && leb (c .k) 999
-    && leb (c .minseconds) 86_400
-    && leb (c .maintain) 1
-    && existingOnly setcount (c .online)
+    ∷ leb (c .coverage) 100
+    ∷ leb (c .minload) 100
+    ∷ leb (c .shed) 100
+    ∷ within 1 60 (c .delay)
+    ∷ leb (c .k) 999
+    ∷ leb (c .minseconds) 86_400
+    ∷ leb (c .maintain) 1
+    ∷ existingOnly setcount (c .online)
+    ∷ []
+
+unfoldable pub controlRight : ℕ → Control → Bool
+controlRight setcount c = all (controlRules setcount c)
 
 -- 5: "least <= start <= most <= 10,000,000,000,000"
-unfoldable pub batteryRight : Battery → Bool
-batteryRight b =
+abbrev pub batteryRules : Battery → List Bool
+batteryRules b =
     leb (b .power) 50_000_000
-    && within 1 100 (b .efficiency)
-    && leb (b .least) (b .start)
-    && leb (b .start) (b .most)
-    && leb (b .most) 10_000_000_000_000
+    ∷ within 1 100 (b .efficiency)
+    ∷ leb (b .least) (b .start)
+    ∷ leb (b .start) (b .most)
+    ∷ leb (b .most) 10_000_000_000_000
+    ∷ []
+
+unfoldable pub batteryRight : Battery → Bool
+batteryRight b = all (batteryRules b)
 
 -- "service time s 1 to 2,592,000, but 0 where the interval is 0"
 abbrev pub serviceRight : ℕ → ℕ → Bool
 serviceRight interval service = if eqb interval 0 then eqb service 0 else within 1 2_592_000 service
 
 -- 6: "a set's number before its pairs"
-unfoldable pub setRight : GenSet → Bool
-setRight g =
+abbrev pub setRules : GenSet → List Bool
+setRules g =
     within 1 10_000_000 (g .rating)
-    && within 1 3_600 (g .warmup)
-    && within 1 3_600 (g .cooldown)
-    && leb (g .interval) 100_000_000
-    && serviceRight (g .interval) (g .service)
-    && within 2 5 (g .points)
+    ∷ within 1 3_600 (g .warmup)
+    ∷ within 1 3_600 (g .cooldown)
+    ∷ leb (g .interval) 100_000_000
+    ∷ serviceRight (g .interval) (g .service)
+    ∷ within 2 5 (g .points)
+    ∷ []
+
+unfoldable pub setRight : GenSet → Bool
+setRight g = all (setRules g)
 
 -- a used pair is in its range; "Unused pairs are zero"
 abbrev pub pairRight : ℕ → ℕ → ℕ → ℕ → Bool
@@ -119,16 +131,22 @@ valuesRight st = do
 
 abbrev pub setUnused : GenSet → Bool
 setUnused g =
-    allAtMost 0 (g .rating ∷ g .warmup ∷ g .cooldown ∷ g .interval ∷ g .service ∷ g .points ∷ [])
-    && allAtMost 0 (g .loads)
-    && allAtMost 0 (g .rates)
+    all
+    (allZero (g .rating ∷ g .warmup ∷ g .cooldown ∷ g .interval ∷ g .service ∷ g .points ∷ [])
+    ∷ allZero (g .loads)
+    ∷ allZero (g .rates)
+    ∷ [])
 
 -- some file gives the record: its counts and values are in rule, and what is past the counts is zero
 -- (proofs/StationFile.antt shows it both ways, by a file that the reader takes back)
-unfoldable pub someFileGives : Station → Bool
-someFileGives st =
+abbrev pub stationRules : Station → List Bool
+stationRules st =
     within 1 8 (st .setcount)
-    && within 1 64 (st .configcount)
-    && isAccepted (valuesRight st)
-    && all (map setUnused (drop (st .setcount) (st .sets)))
-    && allAtMost 0 (drop (st .configcount) (st .configs))
+    ∷ within 1 64 (st .configcount)
+    ∷ isAccepted (valuesRight st)
+    ∷ every setUnused (drop (st .setcount) (st .sets))
+    ∷ allZero (drop (st .configcount) (st .configs))
+    ∷ []
+
+unfoldable pub someFileGives : Station → Bool
+someFileGives st = all (stationRules st)

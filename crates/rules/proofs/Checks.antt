@@ -1,0 +1,28 @@
+-- Checks one after the other: what an answer says of each of them. Assumes nothing.
+use Prim.Native.Nat.{ℕ}
+use mathlib.Core.Path.{_≡_, refl, sym, ap, _∙_}
+use mathlib.Core.Bool.{Bool, true, false}
+use Rattle.rules.specs.Answers.{Answer, accepted, refused, need, isAccepted, _>>=_, _>>_}
+use native.Mathlib.Omega.{arith}
+
+-- a check that passes leaves the rest
+pub passes : {A : Type 0} (b : Bool) (n p : ℕ) (rest : Answer A) → b ≡ true → (need b n p >> rest) ≡ rest
+passes true n p rest h = refl
+passes false n p rest h = absurd (let z : _≡_ {A = ℕ} 0 1 = cc in omega arith)
+
+-- where the whole is accepted, the check passed, and so did the rest
+pub passed : {A : Type 0} (b : Bool) (n p : ℕ) (rest : Answer A) (a : A) → (need b n p >> rest) ≡ accepted a → (b ≡ true) × (rest ≡ accepted a)
+passed true n p rest a h = (refl, h)
+passed false n p rest a h = absurd (let z : _≡_ {A = ℕ} 0 1 = cc in omega arith)
+
+-- the same of a check that is made of others
+pub both-passed : {A : Type 0} (c : Answer (Unit {0})) (rest : Answer A) (a : A) → (c >> rest) ≡ accepted a → (c ≡ accepted tt) × (rest ≡ accepted a)
+both-passed (accepted u) rest a h = (refl, h)
+both-passed (refused n p) rest a h = absurd (let z : _≡_ {A = ℕ} 0 1 = cc in omega arith)
+
+pub is-accepted : (c : Answer (Unit {0})) → isAccepted c ≡ true → c ≡ accepted tt
+is-accepted (accepted u) h = refl
+is-accepted (refused n p) h = absurd (let z : _≡_ {A = ℕ} 0 1 = cc in omega arith)
+
+pub same-value : {A : Type 0} (a b : A) → _≡_ {A = Answer A} (accepted a) (accepted b) → a ≡ b
+same-value a b h = cc
