@@ -44,7 +44,8 @@ unfolding every
 zero-filled zero = refl
 zero-filled (suc k) = zero-filled k
 
-entry-count : (s : List ℕ) (i kind least most offset : ℕ) → entryRight s i kind least most offset ≡ true → within least most (countAt s i) ≡ true
+-- an entry in order has a count in its range
+pub entry-count : (s : List ℕ) (i kind least most offset : ℕ) → entryRight s i kind least most offset ≡ true → within least most (countAt s i) ≡ true
 unfolding entryRight
 entry-count s i kind least most offset h =
     both (eqb (kindAt s i) kind) (within least most (countAt s i)) (both (eqb (kindAt s i) kind && within least most (countAt s i)) (eqb (offsetAt s i) offset) h .0) .1

@@ -18,4 +18,5 @@ pub mod Row
 pub mod Second
 pub mod Sizing
 pub mod Run
+pub mod RefusalTables
 pub mod Cases
