@@ -234,7 +234,7 @@ pub share-refusals : (s : List ℕ) (mask power set : ℕ) → RefusedIn sizingF
 unfolding shareAsked listed
 share-refusals s mask power set =
     bind-in sizingFaults (stationFile s) _ (in-left stationFaults (fault 8 ∷ fault 19 ∷ []) (stationFile s) (station-refusals s))
-    λ st. checked sizingFaults (ltb 0 mask && existingOnly (st .setcount) mask) 8 0 _ refl
+    λ st. checked sizingFaults (existingOnly (st .setcount) mask && ltb 0 mask) 8 0 _ refl
     λ a. checked sizingFaults (leb power (capacity (st .sets) mask)) 19 0 _ refl
     λ b. tt
 
@@ -242,7 +242,7 @@ pub rate-refusals : (s : List ℕ) (mask power : ℕ) → RefusedIn sizingFaults
 unfolding rateAsked listed
 rate-refusals s mask power =
     bind-in sizingFaults (stationFile s) _ (in-left stationFaults (fault 8 ∷ fault 19 ∷ []) (stationFile s) (station-refusals s))
-    λ st. checked sizingFaults (eqb (ones mask) 1 && existingOnly (st .setcount) mask) 8 0 _ refl
+    λ st. checked sizingFaults (existingOnly (st .setcount) mask && eqb (ones mask) 1) 8 0 _ refl
     λ a. checked sizingFaults (leb power (capacity (st .sets) mask)) 19 0 _ refl
     λ b. tt
 

@@ -23,16 +23,16 @@ sampleCheck s = sampleFile s >>= λ rows. accepted tt
 
 -- ---- "Share takes station bytes, a mask, a power and a set's number, and answers that set's watts"
 
--- "0 if it is not in the mask": set 0 is in none, and a set that the station has not is in no right mask
+-- "0 if it is not in the mask": so is set 0, and a set that the station has not
 unfoldable pub shareOfSet : Station → ℕ → ℕ → ℕ → ℕ
 shareOfSet st mask power zero = 0
-shareOfSet st mask power (suc i) = share (st .sets) mask power i
+shareOfSet st mask power (suc i) = if ltb i (st .setcount) then share (st .sets) mask power i else 0
 
 -- "Both answer the station's refusal, then 8 for such a mask wrong, then 19 for power above its capacity, these two with place 0."
 unfoldable pub shareAsked : List ℕ → ℕ → ℕ → ℕ → Answer ℕ
 shareAsked s mask power set = do
   st ← stationFile s
-  need (ltb 0 mask && existingOnly (st .setcount) mask) 8 0
+  need (existingOnly (st .setcount) mask && ltb 0 mask) 8 0
   need (leb power (capacity (st .sets) mask)) 19 0
   accepted (shareOfSet st mask power set)
 
@@ -45,6 +45,6 @@ rateOfMask st mask power = sumTo 8 (λ i. if has mask i then fuelRate (setAt (st
 unfoldable pub rateAsked : List ℕ → ℕ → ℕ → Answer ℕ
 rateAsked s mask power = do
   st ← stationFile s
-  need (eqb (ones mask) 1 && existingOnly (st .setcount) mask) 8 0
+  need (existingOnly (st .setcount) mask && eqb (ones mask) 1) 8 0
   need (leb power (capacity (st .sets) mask)) 19 0
   accepted (rateOfMask st mask power)
