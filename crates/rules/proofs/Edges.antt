@@ -9,7 +9,7 @@ use lib.Dec.{ltb}
 use borrow.Author.Tests.{ltb-true, ltb-false}
 use Rattle.rules.specs.declared.station.Control.{Control}
 use Rattle.rules.specs.Numbers.{if_then_else_}
-use Rattle.rules.specs.Bytes.{digitsIn, decimal, digits, valueFrom, value, parts}
+use Rattle.rules.specs.Bytes.{point, digitsIn, decimal, digits, valueFrom, value, parts}
 use Rattle.rules.specs.Answers.{Answer, accepted, refused}
 use Rattle.rules.specs.SampleFile.{limited, timeCell, powerForm, powerCell}
 use Rattle.rules.specs.Setpoint.{coverageOf}
@@ -27,7 +27,7 @@ pub malformed-time : (line limit : ℕ) (c : List ℕ) → digits 9 c ≡ false 
 unfolding timeCell
 malformed-time line limit c h = rw h
 
-pub malformed-power : (line limit : ℕ) (c : List ℕ) → powerForm (parts 46 c) ≡ false → powerCell line limit c ≡ refused 18 line
+pub malformed-power : (line limit : ℕ) (c : List ℕ) → powerForm (parts point c) ≡ false → powerCell line limit c ≡ refused 18 line
 unfolding powerCell
 malformed-power line limit c h = rw h
 

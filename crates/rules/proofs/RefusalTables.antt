@@ -13,7 +13,7 @@ use Rattle.rules.specs.declared.station.Station.{Station}
 use Rattle.rules.specs.declared.run.Run.{Run}
 use Rattle.rules.specs.declared.run.Inputs.{Inputs}
 use Rattle.rules.specs.Numbers.{if_then_else_, within, existingOnly, allTo, tab}
-use Rattle.rules.specs.Bytes.{digits, value, parts}
+use Rattle.rules.specs.Bytes.{point, digits, value, parts}
 use Rattle.rules.specs.Lines.{Line, lines, cellsOf}
 use Rattle.rules.specs.Answers.{Answer, accepted, refused, need, _>>=_, _>>_}
 use Rattle.rules.specs.StationRecord.{controlRight, batteryRight, setRight, pairsRight, configurationRight, setsRight, configurationsRight, valuesRight, someFileGives}
@@ -161,7 +161,7 @@ module _ (k line : ℕ) (first : 2 ≤ line) (last : line ≤ k) where
   cell-in : (limits : List ℕ) (name : ℕ) (c : List ℕ) → RefusedIn (sampleFaults k) (cell line limits name c)
   unfolding cell timeCell powerCell
   cell-in limits zero c = limited-in (getD limits 0 0) (digits 9 c) (value c)
-  cell-in limits (suc name) c = limited-in (getD limits (suc name) 0) (powerForm (parts 46 c)) (powerValue (parts 46 c))
+  cell-in limits (suc name) c = limited-in (getD limits (suc name) 0) (powerForm (parts point c)) (powerValue (parts point c))
 
   cells-in : (limits columns : List ℕ) (cs : List (List ℕ)) → RefusedIn (sampleFaults k) (cellValues line limits columns cs)
   unfolding cellValues

@@ -144,7 +144,7 @@ length-sets : (gs : List GenSet) → length (setsBytes gs) ≡ setSize * length 
 unfolding setsBytes
 length-sets [] = refl
 length-sets (g ∷ gs) =
-    rw (length-append (bytesOfAll 4 (setNumbers g)) (setsBytes gs), length-all 4 (setNumbers g), length-sets gs, mul-suc) (omega arith)
+    rw (length-append (bytesOfAll 4 (setNumbers g)) (setsBytes gs), length-all 4 (setNumbers g), length-sets gs) (omega arith)
 
 -- ---- the contents of a file, whatever follows them
 

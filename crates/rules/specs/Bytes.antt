@@ -8,6 +8,23 @@ use lib.ListN.{length, drop}
 use lib.Dec.{ltb, eqb}
 use Rattle.rules.specs.Numbers.{if_then_else_, within}
 
+-- the bytes that the formats name
+abbrev pub LF : ℕ
+LF = 10
+
+abbrev pub CR : ℕ
+CR = 13
+
+abbrev pub comma : ℕ
+comma = 44
+
+abbrev pub point : ℕ
+point = 46
+
+-- the digit 0; the others follow it
+abbrev pub digit0 : ℕ
+digit0 = 48
+
 -- the bytes of a text, all of whose characters are ASCII
 unfoldable pub bytes : S.String → List ℕ
 bytes S.[] = []
@@ -47,22 +64,22 @@ bytesOfAll width (x ∷ xs) = bytesOf width x ++ bytesOfAll width xs
 
 -- the digits of n, of which there are at most room + 1: those of n / 10, then the last
 unfoldable pub digitsIn : ℕ → ℕ → List ℕ
-digitsIn zero n = (48 + n) ∷ []
+digitsIn zero n = (digit0 + n) ∷ []
 digitsIn (suc room) n =
-    let more : List ℕ = digitsIn room (n / 10) ++ ((48 + n % 10) ∷ []) in
-    if ltb n 10 then (48 + n) ∷ [] else more
+    let more : List ℕ = digitsIn room (n / 10) ++ ((digit0 + n % 10) ∷ []) in
+    if ltb n 10 then (digit0 + n) ∷ [] else more
 
 unfoldable pub decimal : ℕ → List ℕ
 decimal n = digitsIn n n
 
 -- decimal numbers with a comma between each two, and LF after the last
 unfoldable pub commaLine : List ℕ → List ℕ
-commaLine [] = 10 ∷ []
-commaLine (x ∷ []) = decimal x ++ (10 ∷ [])
-commaLine (x ∷ y ∷ r) = decimal x ++ (44 ∷ commaLine (y ∷ r))
+commaLine [] = LF ∷ []
+commaLine (x ∷ []) = decimal x ++ (LF ∷ [])
+commaLine (x ∷ y ∷ r) = decimal x ++ (comma ∷ commaLine (y ∷ r))
 
 abbrev pub isDigit : ℕ → Bool
-isDigit x = within 48 57 x
+isDigit x = within digit0 (digit0 + 9) x
 
 unfoldable pub allDigits : List ℕ → Bool
 allDigits [] = true
@@ -75,7 +92,7 @@ digits n s = within 1 n (length s) && allDigits s
 -- the number whose first digits have the value v and whose others are s
 unfoldable pub valueFrom : ℕ → List ℕ → ℕ
 valueFrom v [] = v
-valueFrom v (x ∷ s) = valueFrom (v * 10 + (x - 48)) s
+valueFrom v (x ∷ s) = valueFrom (v * 10 + (x - digit0)) s
 
 abbrev pub value : List ℕ → ℕ
 value s = valueFrom 0 s

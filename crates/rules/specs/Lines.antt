@@ -4,7 +4,7 @@ use mathlib.Core.List.{List, [], _∷_}
 use lib.ListN.{length}
 use lib.Dec.{eqb}
 use Rattle.rules.specs.Numbers.{if_then_else_}
-use Rattle.rules.specs.Bytes.{parts}
+use Rattle.rules.specs.Bytes.{LF, CR, comma, parts}
 
 -- A line: its length "without the LF", by which 11 is judged, and its text, which has not the CR that is dropped.
 pub record Line : Type 0 where
@@ -14,7 +14,7 @@ pub record Line : Type 0 where
 -- "one CR just before it is dropped"
 unfoldable pub withoutCR : List ℕ → List ℕ
 withoutCR [] = []
-withoutCR (x ∷ []) = if eqb x 13 then [] else x ∷ []
+withoutCR (x ∷ []) = if eqb x CR then [] else x ∷ []
 withoutCR (x ∷ y ∷ r) = x ∷ withoutCR (y ∷ r)
 
 -- a line that "ends at LF"
@@ -33,8 +33,8 @@ linesOf (p ∷ []) = atEnd p
 linesOf (p ∷ q ∷ r) = ended p ∷ linesOf (q ∷ r)
 
 unfoldable pub lines : List ℕ → List Line
-lines s = linesOf (parts 10 s)
+lines s = linesOf (parts LF s)
 
 -- "Comma-separated": a line's headings or cells
 unfoldable pub cellsOf : Line → List (List ℕ)
-cellsOf l = parts 44 (l .text)
+cellsOf l = parts comma (l .text)

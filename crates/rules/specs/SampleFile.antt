@@ -6,7 +6,7 @@ use lib.ListN.{length, getD}
 use lib.Dec.{leb, ltb, eqb}
 use Rattle.rules.specs.declared.samples.Sample.{Sample}
 use Rattle.rules.specs.Numbers.{if_then_else_, allTo, tab}
-use Rattle.rules.specs.Bytes.{bytes, same, parts, digits, value}
+use Rattle.rules.specs.Bytes.{point, bytes, same, parts, digits, value}
 use Rattle.rules.specs.Lines.{Line, lines, cellsOf}
 use Rattle.rules.specs.Answers.{Answer, accepted, refused, need, _>>=_, _>>_}
 
@@ -82,7 +82,7 @@ unfoldable pub powerValue : List (List ℕ) → ℕ
 powerValue ps = value (getD ps 0 []) * 1000 + value (getD ps 1 []) * 10 ^ (3 - length (getD ps 1 []))
 
 unfoldable pub powerCell : ℕ → ℕ → List ℕ → Answer ℕ
-powerCell line limit c = limited line limit (powerForm (parts 46 c)) (powerValue (parts 46 c))
+powerCell line limit c = limited line limit (powerForm (parts point c)) (powerValue (parts point c))
 
 -- a cell under the heading whose name has this place
 unfoldable pub cell : ℕ → List ℕ → ℕ → List ℕ → Answer ℕ

@@ -42,7 +42,7 @@ abbrev pub setsOffset : ℕ
 setsOffset = 100
 
 abbrev pub configsOffset : ℕ → ℕ
-configsOffset setcount = 100 + setSize * setcount
+configsOffset setcount = setsOffset + setSize * setcount
 
 -- 2: the entry at place i has its kind, a count in its range and its offset
 unfoldable pub entryRight : List ℕ → ℕ → ℕ → ℕ → ℕ → ℕ → Bool
