@@ -26,7 +26,8 @@ def unfolded():
             if m:
                 names.append('%s.%s' % (mod, m.group(1)))
     ieee = 'span climb size odd units round neg sum add mul div lt eq le ofInt ofBits ofFields toBits isNan'.split()
-    return mods, names + ['Ieee.' + n for n in ieee] + ['Count.ones', 'Count.onesIn', 'Count.trailingZeros', 'Answered.runNumbers', 'Answered.stateNumbers', 'Answered.heldNumbers', 'Answered.flat', 'Answered.bitsOf', 'Answered.callGives', 'Answered.amount']
+    names += ['Ieee.' + n for n in ieee] + ['Count.ones', 'Count.onesIn', 'Count.trailingZeros']
+    return mods, names + ['Answered.' + n for n in re.findall(r'unfoldable pub (\S+) :', ANSWERED)]
 
 
 ANSWERED = '''-- How an answer is written down as numbers, for a comparison.
@@ -117,8 +118,8 @@ def station_case(case, answer):
     h, mask, power, which = case.split()
     check, share, rate = answer.split()
     s = bytes_term(h)
-    return (lists(['refusal (stationCheck %s)' % s, 'amount (shareAsked %s %s %s %s)' % (s, mask, power, which), 'amount (rateAsked %s %s %s)' % (s, mask, power)]),
-            lists([refusal(check), amount(share), amount(rate)]))
+    gives = ['refusal (stationCheck %s)' % s, 'amount (shareAsked %s %s %s %s)' % (s, mask, power, which), 'amount (rateAsked %s %s %s)' % (s, mask, power)]
+    return lists(gives), lists([refusal(check), amount(share), amount(rate)])
 
 
 def sample_case(case, answer):
@@ -202,6 +203,12 @@ use Rattle.rules.specs.Sizing.{stationCheck, sampleCheck, shareAsked, rateAsked
 use Rattle.rules.specs.Run.{printed}
 '''
 
+EQUATION = '''
+pub case%(i)d : _≡_ {A = List (List ℕ)} (%(gives)s) %(shows)s
+unfolding %(names)s
+case%(i)d = refl
+'''
+
 
 def shorten(case):
     """A run of at most MOST_SECONDS seconds: the number asked, where it is one, is made smaller."""
@@ -212,54 +219,72 @@ def shorten(case):
     return ' '.join([st, sm, sec])
 
 
-def main():
-    reference, generate, seed = sys.argv[1:4]
-    counts = dict(zip(['stations', 'samples', 'runs', 'seconds'], map(int, sys.argv[4:8])))
+def answered(reference, generate, kind, seed, count):
+    """The generated cases of a kind, each with the reference's answer."""
+    cases = subprocess.run([generate, kind, seed, str(count)], check=True, stdout=subprocess.PIPE, text=True).stdout.splitlines()
+    if kind == 'runs':
+        cases = [shorten(c) for c in cases]
+    asked = ''.join(c + '\n' for c in cases)
+    answers = subprocess.run([reference, 'batch', kind], check=True, input=asked, stdout=subprocess.PIPE, text=True).stdout.splitlines()
+    if not len(cases) == len(answers) == count:
+        sys.exit('%s: %d cases and %d answers, of %d asked for' % (kind, len(cases), len(answers), count))
+    return list(zip(cases, answers))
+
+
+def put(top, path, text):
+    path = os.path.join(top, path)
+    os.makedirs(os.path.dirname(path), exist_ok=True)
+    with open(path, 'w', encoding='utf-8') as f:
+        f.write(text)
+
+
+def write_repository(top, cases):
+    """The crate of the equations, above a copy of `rules`; cases has a list for each kind."""
     mods, names = unfolded()
+    shutil.copytree(os.path.join(ROOT, 'crates', 'rules'), os.path.join(top, 'crates', 'rules'), ignore=shutil.ignore_patterns('must-fail'))
+    put(top, 'crates.txt', 'rules:\ncompared: rules\n')
+    put(top, 'crates/compared/src/lib.rt', '// Nothing: the equations stand in specs/.\n')
+    put(top, 'crates/compared/specs/Answered.antt', ANSWERED)
+    header = HEADER % '\n'.join('use Rattle.rules.specs.%s' % m for m in mods)
+    blocks = ['Answered']
+    for kind, (term, size) in KINDS.items():
+        for at in range(0, len(cases[kind]), size):
+            blocks.append('%s%d' % (kind.capitalize(), at))
+            text = header
+            for i, (case, answer) in enumerate(cases[kind][at:at + size], at):
+                gives, shows = term(case, answer)
+                text += EQUATION % {'i': i, 'gives': gives, 'shows': shows, 'names': ' '.join(names)}
+            put(top, 'crates/compared/specs/%s.antt' % blocks[-1], text)
+    put(top, 'crates/compared/specs/Lib.antt', ''.join('pub mod %s\n' % b for b in blocks))
+
+
+def refused(output):
+    """The equations that the check refused: kind, number and the reason's first words."""
+    return re.findall(r'specs/([A-Z][a-z]+)\d+\.antt:\d+:\d+: error: `case(\d+)`: ([^\n]{0,100})', output)
+
+
+def main():
+    if len(sys.argv) != 8:
+        sys.exit(__doc__)
+    reference, generate, seed = sys.argv[1:4]
+    counts = dict(zip(KINDS, map(int, sys.argv[4:8])))
+    cases = {k: answered(reference, generate, k, seed, n) if n else [] for k, n in counts.items()}
     top = tempfile.mkdtemp(prefix='definitions-')
     try:
-        shutil.copytree(os.path.join(ROOT, 'crates', 'rules'), os.path.join(top, 'crates', 'rules'), ignore=shutil.ignore_patterns('must-fail'))
-        crate = os.path.join(top, 'crates', 'compared')
-        os.makedirs(os.path.join(crate, 'src'))
-        os.makedirs(os.path.join(crate, 'specs'))
-        open(os.path.join(top, 'crates.txt'), 'w').write('rules:\ncompared: rules\n')
-        open(os.path.join(crate, 'src', 'lib.rt'), 'w').write('// Nothing: the equations stand in specs/.\n')
-        open(os.path.join(crate, 'specs', 'Answered.antt'), 'w', encoding='utf-8').write(ANSWERED)
-        blocks, total = ['Answered'], 0
-        for kind, (term, size) in KINDS.items():
-            if not counts[kind]:
-                continue
-            cases = subprocess.run([generate, kind, seed, str(counts[kind])], check=True, stdout=subprocess.PIPE, text=True).stdout.splitlines()
-            if kind == 'runs':
-                cases = [shorten(c) for c in cases]
-            answers = subprocess.run([reference, 'batch', kind], check=True, input='\n'.join(cases) + '\n', stdout=subprocess.PIPE, text=True).stdout.splitlines()
-            if not len(cases) == len(answers) == counts[kind]:
-                sys.exit('%s: %d cases, %d answers' % (kind, len(cases), len(answers)))
-            total += len(cases)
-            for at in range(0, len(cases), size):
-                block = '%s%d' % (kind.capitalize(), at)
-                blocks.append(block)
-                text = HEADER % '\n'.join('use Rattle.rules.specs.%s' % m for m in mods)
-                for i in range(at, min(at + size, len(cases))):
-                    gives, shows = term(cases[i], answers[i])
-                    text += '\npub case%d : _≡_ {A = List (List ℕ)} (%s) %s\nunfolding %s\ncase%d = refl\n' % (i, gives, shows, ' '.join(names), i)
-                open(os.path.join(crate, 'specs', block + '.antt'), 'w', encoding='utf-8').write(text)
-        open(os.path.join(crate, 'specs', 'Lib.antt'), 'w').write(''.join('pub mod %s\n' % b for b in blocks))
+        write_repository(top, cases)
         got = subprocess.run(['rt', 'check', 'compared'], cwd=top, stdout=subprocess.PIPE, stderr=subprocess.STDOUT, text=True)
-        if got.returncode != 0:
-            wrong = re.findall(r'specs/([A-Z][a-z]+)\d+\.antt:\d+:\d+: error: `case(\d+)`: ([^\n]{0,100})', got.stdout)
-            for kind, i, why in wrong:
-                print('not as the reference answers: generate %s %s %d | tail -1   (%s)' % (kind.lower(), seed, int(i) + 1, why))
-            if not wrong:
-                print(got.stdout[:4000])
-            if os.environ.get('KEEP'):
-                print(top)
-                top = None
-            sys.exit(1)
-        print('definitions: %d cases as the reference answers them (%s)' % (total, ', '.join('%d %s' % (counts[k], k) for k in counts)))
     finally:
-        if top:
+        if 'KEEP' in os.environ:
+            print('kept: ' + top)
+        else:
             shutil.rmtree(top, ignore_errors=True)
+    if got.returncode != 0:
+        for kind, i, why in refused(got.stdout):
+            print('not as the reference answers: generate %s %s %d | tail -1   (%s)' % (kind.lower(), seed, int(i) + 1, why))
+        if not refused(got.stdout):
+            print(got.stdout[:4000])
+        sys.exit(1)
+    print('definitions: %d cases as the reference answers them (%s)' % (sum(counts.values()), ', '.join('%d %s' % (n, k) for k, n in counts.items())))
 
 
 main()
