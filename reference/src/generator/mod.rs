@@ -1,0 +1,50 @@
+//! The generator: good and damaged cases of each kind from a seed alone.
+
+pub mod encode;
+pub mod good_samples;
+pub mod good_stations;
+pub mod random;
+pub mod record_damage;
+pub mod records;
+pub mod runs;
+pub mod seconds;
+pub mod sheet;
+pub mod sheet_damage;
+pub mod sizing_queries;
+pub mod station_damage;
+pub mod stations;
+
+use std::io::{self, Write};
+
+use crate::batch::Kind;
+use crate::hex;
+use random::Random;
+
+/// Prints `count` cases of a kind, one a line; the seed decides them.
+pub fn write_cases(kind: Kind, seed: u64, count: u64, out: &mut impl Write) -> io::Result<()> {
+    let mut random = Random::from_seed(seed);
+    for _ in 0..count {
+        writeln!(out, "{}", case(kind, &mut random))?;
+    }
+    Ok(())
+}
+
+/// One case of a kind, as its line without LF.
+pub fn case(kind: Kind, random: &mut Random) -> String {
+    match kind {
+        Kind::Stations => stations::case(random),
+        Kind::Samples => hex::write(&samples_file(random)),
+        Kind::Runs => runs::case(random),
+        Kind::Seconds => seconds::case(random),
+    }
+}
+
+/// A sample file, good or damaged, half and half.
+fn samples_file(random: &mut Random) -> Vec<u8> {
+    let sheet = good_samples::any(random);
+    if random.chance(50) {
+        sheet.bytes()
+    } else {
+        sheet_damage::damaged(random, sheet)
+    }
+}
