@@ -94,15 +94,15 @@ unfolding setsRight listed
 sets-in n [] h = tt
 sets-in n (g ∷ gs) h =
     let place : within 1 8 (suc n) || false ≡ true = in-range 1 8 (suc n) false (omega arith) (omega arith) in
-    checked stationFaults (setRight g) 6 (suc n) _ place
-    λ e. checked stationFaults (pairsRight g) 7 (suc n) _ place
+    checked stationFaults (setRight g) _ _ _ place
+    λ e. checked stationFaults (pairsRight g) _ _ _ place
     λ f. sets-in (suc n) gs (omega arith)
 
 configurations-in : (setcount n : ℕ) (masks : List ℕ) → n + length masks ≤ 64 → RefusedIn stationFaults (configurationsRight setcount n masks)
 unfolding configurationsRight listed
 configurations-in setcount n [] h = tt
 configurations-in setcount n (m ∷ masks) h =
-    checked stationFaults (configurationRight setcount m) 8 (suc n) _ (in-range 1 64 (suc n) false (omega arith) (omega arith))
+    checked stationFaults (configurationRight setcount m) _ _ _ (in-range 1 64 (suc n) false (omega arith) (omega arith))
     λ e. configurations-in setcount (suc n) masks (omega arith)
 
 values-in : (st : Station) → st .setcount ≤ 8 → st .configcount ≤ 64 → RefusedIn stationFaults (valuesRight st)
@@ -110,8 +110,8 @@ unfolding valuesRight listed
 values-in st h k =
     let a : length (take (st .setcount) (st .sets)) ≤ 8 = simp length-take (omega arith) in
     let b : length (take (st .configcount) (st .configs)) ≤ 64 = simp length-take (omega arith) in
-    checked stationFaults (controlRight (st .setcount) (st .control)) 4 0 _ refl
-    λ e. checked stationFaults (batteryRight (st .battery)) 5 0 _ refl
+    checked stationFaults (controlRight (st .setcount) (st .control)) _ _ _ refl
+    λ e. checked stationFaults (batteryRight (st .battery)) _ _ _ refl
     λ f. then-in stationFaults (setsRight 0 (take (st .setcount) (st .sets))) _ (sets-in 0 (take (st .setcount) (st .sets)) (omega arith)) (configurations-in (st .setcount) 0 (take (st .configcount) (st .configs)) (omega arith))
 
 record-in : (s : List ℕ) → entryRight s 2 3 1 8 100 ≡ true → entryRight s 3 4 1 64 (configsOffset (countAt s 2)) ≡ true → RefusedIn stationFaults (valuesRight (recordOf s))
@@ -122,12 +122,12 @@ record-in s h k =
 pub station-refusals : (s : List ℕ) → RefusedIn stationFaults (stationFile s)
 unfolding stationFile listed
 station-refusals s =
-    checked stationFaults (within 165 676 (length s)) 1 0 _ refl
-    λ a. checked stationFaults (entryRight s 0 1 1 1 32) 2 1 _ refl
-    λ b. checked stationFaults (entryRight s 1 2 1 1 68) 2 2 _ refl
-    λ c. checked stationFaults (entryRight s 2 3 1 8 100) 2 3 _ refl
-    λ d. checked stationFaults (entryRight s 3 4 1 64 (configsOffset (countAt s 2))) 2 4 _ refl
-    λ e. checked stationFaults (eqb (length s) (configsOffset (countAt s 2) + countAt s 3)) 3 0 _ refl
+    checked stationFaults (within 165 676 (length s)) _ _ _ refl
+    λ a. checked stationFaults (entryRight s 0 1 1 1 32) _ _ _ refl
+    λ b. checked stationFaults (entryRight s 1 2 1 1 68) _ _ _ refl
+    λ c. checked stationFaults (entryRight s 2 3 1 8 100) _ _ _ refl
+    λ d. checked stationFaults (entryRight s 3 4 1 64 (configsOffset (countAt s 2))) _ _ _ refl
+    λ e. checked stationFaults (eqb (length s) (configsOffset (countAt s 2) + countAt s 3)) _ _ _ refl
     λ f. then-in stationFaults (valuesRight (recordOf s)) _ (record-in s d e) tt
 
 -- ---- the sample file
@@ -136,26 +136,26 @@ headings-in : (k : ℕ) (names : List (List ℕ)) (columns : List ℕ) (hs : Lis
 unfolding headings listed
 headings-in k names columns [] = tt
 headings-in k names columns (h ∷ hs) =
-    checked (sampleFaults k) (ltb 0 (length h)) 12 1 _ refl
-    λ a. checked (sampleFaults k) (ltb (nameOf names h) (length names)) 13 1 _ refl
-    λ b. checked (sampleFaults k) (not (occurs (nameOf names h) columns)) 14 1 _ refl
+    checked (sampleFaults k) (ltb 0 (length h)) _ _ _ refl
+    λ a. checked (sampleFaults k) (ltb (nameOf names h) (length names)) _ _ _ refl
+    λ b. checked (sampleFaults k) (not (occurs (nameOf names h) columns)) _ _ _ refl
     λ c. headings-in k names (columns ++ (nameOf names h ∷ [])) hs
 
 heading-in : (k : ℕ) (names : List (List ℕ)) (l : Line) → 1 ≤ k → RefusedIn (sampleFaults k) (headingLine names l)
 unfolding headingLine listed
 heading-in k names l h =
-    checked (sampleFaults k) (leb (l .size) 512) 11 1 _ (in-range 1 k 1 false (omega arith) h)
-    λ a. checked (sampleFaults k) (eqb (nameOf names (getD (cellsOf l) 0 [])) 0) 16 1 _ refl
+    checked (sampleFaults k) (leb (l .size) 512) _ _ _ (in-range 1 k 1 false (omega arith) h)
+    λ a. checked (sampleFaults k) (eqb (nameOf names (getD (cellsOf l) 0 [])) 0) _ _ _ refl
     λ b. bind-in (sampleFaults k) (headings names [] (cellsOf l)) _ (headings-in k names [] (cellsOf l))
-    λ columns. checked (sampleFaults k) (allTo (length names) (λ name. occurs name columns)) 15 1 _ refl
+    λ columns. checked (sampleFaults k) (allTo (length names) (λ name. occurs name columns)) _ _ _ refl
     λ d. tt
 
 module _ (k line : ℕ) (first : 2 ≤ line) (last : line ≤ k) where
   limited-in : (limit : ℕ) (wellFormed : Bool) (v : ℕ) → RefusedIn (sampleFaults k) (limited line limit wellFormed v)
   unfolding listed
   limited-in limit wellFormed v =
-      checked (sampleFaults k) wellFormed 18 line _ (in-range 2 k line false first last)
-      λ a. checked (sampleFaults k) (leb v limit) 19 line _ (in-range 2 k line false first last)
+      checked (sampleFaults k) wellFormed _ _ _ (in-range 2 k line false first last)
+      λ a. checked (sampleFaults k) (leb v limit) _ _ _ (in-range 2 k line false first last)
       λ b. tt
 
   cell-in : (limits : List ℕ) (name : ℕ) (c : List ℕ) → RefusedIn (sampleFaults k) (cell line limits name c)
@@ -175,10 +175,10 @@ module _ (k line : ℕ) (first : 2 ≤ line) (last : line ≤ k) where
   row-in : (sheet : Sheet) (columns : List ℕ) (l : Line) → RefusedIn (sampleFaults k) (rowValues sheet columns line l)
   unfolding rowValues listed
   row-in sheet columns l =
-      checked (sampleFaults k) (leb (l .size) 512) 11 line _ (in-range 1 k line false (omega arith) last)
-      λ a. checked (sampleFaults k) (eqb (length (cellsOf l)) (length columns)) 17 line _ (in-range 2 k line false first last)
+      checked (sampleFaults k) (leb (l .size) 512) _ _ _ (in-range 1 k line false (omega arith) last)
+      λ a. checked (sampleFaults k) (eqb (length (cellsOf l)) (length columns)) _ _ _ (in-range 2 k line false first last)
       λ b. bind-in (sampleFaults k) (cellValues line (sheet .limits) columns (cellsOf l)) _ (cells-in (sheet .limits) columns (cellsOf l))
-      λ vs. checked (sampleFaults k) (sheet .agree (tab (length (sheet .names)) (λ name. valueUnder name columns vs))) 20 line _ (in-range 2 k line false first last)
+      λ vs. checked (sampleFaults k) (sheet .agree (tab (length (sheet .names)) (λ name. valueUnder name columns vs))) _ _ _ (in-range 2 k line false first last)
       λ d. tt
 
 later-in : (k : ℕ) (sheet : Sheet) (columns : List ℕ) (line last : ℕ) (ls : List Line) → 2 ≤ line → line + length ls ≤ suc k → RefusedIn (sampleFaults k) (laterRows sheet columns line last ls)
@@ -194,7 +194,7 @@ unfolding rowsAfter listed
 rows-in k sheet columns [] h = refl
 rows-in k sheet columns (l ∷ ls) h =
     bind-in (sampleFaults k) (rowValues sheet columns 2 l) _ (row-in k 2 (omega arith) (omega arith) sheet columns l)
-    λ values. checked (sampleFaults k) (eqb (timeIn values) 0) 21 2 _ refl
+    λ values. checked (sampleFaults k) (eqb (timeIn values) 0) _ _ _ refl
     λ a. bind-in (sampleFaults k) (laterRows sheet columns 3 (timeIn values) ls) _ (later-in k sheet columns 3 (timeIn values) ls (omega arith) (omega arith))
     λ rows. tt
 
@@ -215,8 +215,8 @@ sample-refusals s =
 pub seconds-refusals : (s : List ℕ) → RefusedIn secondsFaults (secondsAsked s)
 unfolding secondsAsked listed
 seconds-refusals s =
-    checked secondsFaults (digits 9 s) 18 0 _ refl
-    λ a. checked secondsFaults (leb (value s) 316_224_000) 23 0 _ refl
+    checked secondsFaults (digits 9 s) _ _ _ refl
+    λ a. checked secondsFaults (leb (value s) 316_224_000) _ _ _ refl
     λ b. tt
 
 pub run-refusals : (station samples seconds : List ℕ) → RefusedIn (runFaults (length (lines samples))) (runOf station samples seconds)
@@ -234,35 +234,35 @@ pub share-refusals : (s : List ℕ) (mask power set : ℕ) → RefusedIn sizingF
 unfolding shareAsked listed
 share-refusals s mask power set =
     bind-in sizingFaults (stationFile s) _ (in-left stationFaults (fault 8 ∷ fault 19 ∷ []) (stationFile s) (station-refusals s))
-    λ st. checked sizingFaults (existingOnly (st .setcount) mask && ltb 0 mask) 8 0 _ refl
-    λ a. checked sizingFaults (leb power (capacity (st .sets) mask)) 19 0 _ refl
+    λ st. checked sizingFaults (existingOnly (st .setcount) mask && ltb 0 mask) _ _ _ refl
+    λ a. checked sizingFaults (leb power (capacity (st .sets) mask)) _ _ _ refl
     λ b. tt
 
 pub rate-refusals : (s : List ℕ) (mask power : ℕ) → RefusedIn sizingFaults (rateAsked s mask power)
 unfolding rateAsked listed
 rate-refusals s mask power =
     bind-in sizingFaults (stationFile s) _ (in-left stationFaults (fault 8 ∷ fault 19 ∷ []) (stationFile s) (station-refusals s))
-    λ st. checked sizingFaults (existingOnly (st .setcount) mask && eqb (ones mask) 1) 8 0 _ refl
-    λ a. checked sizingFaults (leb power (capacity (st .sets) mask)) 19 0 _ refl
+    λ st. checked sizingFaults (existingOnly (st .setcount) mask && eqb (ones mask) 1) _ _ _ refl
+    λ a. checked sizingFaults (leb power (capacity (st .sets) mask)) _ _ _ refl
     λ b. tt
 
 -- ---- the start and a second
 
 pub start-refusals : (st : Station) → RefusedIn startFaults (start st)
 unfolding start listed
-start-refusals st = checked startFaults (someFileGives st) 25 0 _ refl λ a. tt
+start-refusals st = checked startFaults (someFileGives st) _ _ _ refl λ a. tt
 
 admitted-in : (done : ℕ) (x : Inputs) (room : ℕ) → RefusedIn secondFaults (admitted done x room)
 unfolding admitted listed
 admitted-in done x room =
-    checked secondFaults (ltb done mostSeconds) 23 0 _ refl
-    λ a. checked secondFaults (inputsRight x) 19 0 _ refl
-    λ b. checked secondFaults (leb (x .sheddable) (x .load)) 20 0 _ refl
-    λ c. last-check secondFaults (leb 256 room) 26 0 refl
+    checked secondFaults (ltb done mostSeconds) _ _ _ refl
+    λ a. checked secondFaults (inputsRight x) _ _ _ refl
+    λ b. checked secondFaults (leb (x .sheddable) (x .load)) _ _ _ refl
+    λ c. last-check secondFaults (leb 256 room) _ _ refl
 
 pub second-refusals : (st : Station) (r : Run) (x : Inputs) (room : ℕ) → RefusedIn secondFaults (second st r x room)
 unfolding second admitted listed
 second-refusals st r x room =
-    checked secondFaults (someFileGives st) 25 0 _ refl
-    λ a. checked secondFaults (possible st r) 24 0 _ refl
+    checked secondFaults (someFileGives st) _ _ _ refl
+    λ a. checked secondFaults (possible st r) _ _ _ refl
     λ b. then-in secondFaults (admitted (r .done) x room) _ (admitted-in (r .done) x room) tt

@@ -34,76 +34,50 @@ abbrev pub isAccepted : {A : Type 0} → Answer A → Bool
 isAccepted (accepted a) = true
 isAccepted (refused number place) = false
 
--- "refused,number,place": the two numbers, and none where there is no refusal
+-- the number and the place of a refusal, in this order, and none where there is no refusal
 abbrev pub refusal : {A : Type 0} → Answer A → List ℕ
 refusal (accepted a) = []
 refusal (refused number place) = number ∷ place ∷ []
 
 -- ---- the code's enums
 
--- the table's number of each fault
-abbrev pub numberOf : Refusal → ℕ
-numberOf StationSize = 1
-numberOf (ContentsEntry entry) = 2
-numberOf ContentsSize = 3
-numberOf ControlValue = 4
-numberOf BatteryValue = 5
-numberOf (SetNumber set) = 6
-numberOf (SetPairs set) = 7
-numberOf (ConfigurationMask configuration) = 8
-numberOf (LineLength line) = 11
-numberOf (HeadingBlank line) = 12
-numberOf (HeadingUnknown line) = 13
-numberOf (HeadingTwice line) = 14
-numberOf (HeadingMissing line) = 15
-numberOf (FirstHeading line) = 16
-numberOf (CellCount line) = 17
-numberOf (Malformed line) = 18
-numberOf (OverLimit line) = 19
-numberOf (SheddableAboveLoad line) = 20
-numberOf (FirstTime line) = 21
-numberOf NoRow = 22
-numberOf RunEnded = 23
-numberOf RunRecord = 24
-numberOf StationRecord = 25
-numberOf RowBuffer = 26
-
--- "the first wrong contents entry for 2, the set for 6 and 7, the configuration for 8, the line for 11 to 21; 0 for the rest"
-abbrev pub placeOf : Refusal → ℕ
-placeOf StationSize = 0
-placeOf (ContentsEntry entry) = entry
-placeOf ContentsSize = 0
-placeOf ControlValue = 0
-placeOf BatteryValue = 0
-placeOf (SetNumber set) = set
-placeOf (SetPairs set) = set
-placeOf (ConfigurationMask configuration) = configuration
-placeOf (LineLength line) = line
-placeOf (HeadingBlank line) = line
-placeOf (HeadingUnknown line) = line
-placeOf (HeadingTwice line) = line
-placeOf (HeadingMissing line) = line
-placeOf (FirstHeading line) = line
-placeOf (CellCount line) = line
-placeOf (Malformed line) = line
-placeOf (OverLimit line) = line
-placeOf (SheddableAboveLoad line) = line
-placeOf (FirstTime line) = line
-placeOf NoRow = 0
-placeOf RunEnded = 0
-placeOf RunRecord = 0
-placeOf StationRecord = 0
-placeOf RowBuffer = 0
+-- "Answer: the number and its place from 1: the first wrong contents entry for 2, the set for 6 and 7, the configuration
+-- for 8, the line for 11 to 21; 0 for the rest"
+abbrev pub refusalOf : {A : Type 0} → Refusal → Answer A
+refusalOf StationSize = refused 1 0
+refusalOf (ContentsEntry entry) = refused 2 entry
+refusalOf ContentsSize = refused 3 0
+refusalOf ControlValue = refused 4 0
+refusalOf BatteryValue = refused 5 0
+refusalOf (SetNumber set) = refused 6 set
+refusalOf (SetPairs set) = refused 7 set
+refusalOf (ConfigurationMask configuration) = refused 8 configuration
+refusalOf (LineLength line) = refused 11 line
+refusalOf (HeadingBlank line) = refused 12 line
+refusalOf (HeadingUnknown line) = refused 13 line
+refusalOf (HeadingTwice line) = refused 14 line
+refusalOf (HeadingMissing line) = refused 15 line
+refusalOf (FirstHeading line) = refused 16 line
+refusalOf (CellCount line) = refused 17 line
+refusalOf (Malformed line) = refused 18 line
+refusalOf (OverLimit line) = refused 19 line
+refusalOf (SheddableAboveLoad line) = refused 20 line
+refusalOf (FirstTime line) = refused 21 line
+refusalOf NoRow = refused 22 0
+refusalOf RunEnded = refused 23 0
+refusalOf RunRecord = refused 24 0
+refusalOf StationRecord = refused 25 0
+refusalOf RowBuffer = refused 26 0
 
 abbrev pub verdictOf : Verdict → Answer (Unit {0})
 verdictOf Verdict.Accepted = accepted tt
-verdictOf (Verdict.Refused r) = refused (numberOf r) (placeOf r)
+verdictOf (Verdict.Refused r) = refusalOf r
 
 abbrev pub amountOf : Amount → Answer ℕ
 amountOf (Amount.Value v) = accepted v
-amountOf (Amount.Refused r) = refused (numberOf r) (placeOf r)
+amountOf (Amount.Refused r) = refusalOf r
 
 -- the value is the row's length
 abbrev pub outcomeOf : Outcome → Answer ℕ
 outcomeOf (Outcome.Row size) = accepted size
-outcomeOf (Outcome.Refused r) = refused (numberOf r) (placeOf r)
+outcomeOf (Outcome.Refused r) = refusalOf r
