@@ -74,3 +74,8 @@ exactCurve g power = let j = lowerPoint g power in exactFrom g power j * otherSt
 unfoldable pub exactSum : GenSet → List ℕ → ℕ
 exactSum g [] = 0
 exactSum g (power ∷ powers) = exactCurve g power + exactSum g powers
+
+-- the fuel that a set burns over those seconds: each "its rate"
+unfoldable pub fuelSum : GenSet → List ℕ → ℕ
+fuelSum g [] = 0
+fuelSum g (power ∷ powers) = fuelRate g power + fuelSum g powers
