@@ -13,11 +13,11 @@ use Rattle.rules.specs.Flows.{percent, floorLoad, shedNow, solarOnLoad, battery
 
 -- ---- each step's bounds
 
-shed-most : (sheddable decided : ℕ) → shedNow sheddable decided ≤ sheddable
+pub shed-most : (sheddable decided : ℕ) → shedNow sheddable decided ≤ sheddable
 unfolding shedNow
 shed-most sheddable decided = omega arith
 
-solar-offered : (offered demand floor : ℕ) → solarOnLoad offered demand floor ≤ offered
+pub solar-offered : (offered demand floor : ℕ) → solarOnLoad offered demand floor ≤ offered
 unfolding solarOnLoad
 solar-offered offered demand floor = omega arith
 
@@ -25,7 +25,7 @@ solar-demand : (offered demand floor : ℕ) → solarOnLoad offered demand floor
 unfolding solarOnLoad
 solar-demand offered demand floor = omega arith
 
-gives-lacking : (b : Battery) (store cap rest : ℕ) → batteryGives b store cap rest ≤ rest - cap
+pub gives-lacking : (b : Battery) (store cap rest : ℕ) → batteryGives b store cap rest ≤ rest - cap
 unfolding batteryGives
 gives-lacking b store cap rest = omega arith
 
@@ -38,7 +38,7 @@ gives-all : (b : Battery) (store cap rest : ℕ) → batteryGives b store cap re
 unfolding batteryGives
 gives-all b store cap rest h = omega arith
 
-takes-surplus : (b : Battery) (store surplus : ℕ) → batteryTakes b store surplus ≤ surplus
+pub takes-surplus : (b : Battery) (store surplus : ℕ) → batteryTakes b store surplus ≤ surplus
 unfolding batteryTakes
 takes-surplus b store surplus = omega arith
 
@@ -60,7 +60,7 @@ rest-is load off solar h k = omega arith
 met : (load off solar rest give diesel : ℕ) → load ≡ rest + solar + off → give ≤ rest → diesel ≤ rest - give → load ≡ diesel + solar + give + off + (rest - give - diesel)
 met load off solar rest give diesel e h k = omega arith
 
-diesel-most : (cap rest : ℕ) → dieselFor cap rest ≤ rest
+pub diesel-most : (cap rest : ℕ) → dieselFor cap rest ≤ rest
 unfolding dieselFor
 diesel-most cap rest = omega arith
 

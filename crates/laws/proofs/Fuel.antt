@@ -56,6 +56,11 @@ module _ (g : GenSet) where
 
 -- ---- of a set whose checks passed
 
+-- the lower point has a point above it
+pub lower-inside : (g : GenSet) → setRight g ≡ true → (power : ℕ) → suc (lowerPoint g power) < g .points
+unfolding lowerPoint
+lower-inside g numbers power = omega (arith, lower-most g power (g .points - 2), points-range g numbers .0)
+
 module _ (g : GenSet) (numbers : setRight g ≡ true) (pairs : pairsRight g ≡ true) where
   -- "Loads rise strictly"
   pub loads-rise : (j : ℕ) → suc j < g .points → loadAt g j < loadAt g (suc j)
@@ -90,8 +95,8 @@ module _ (g : GenSet) (numbers : setRight g ≡ true) (pairs : pairsRight g ≡ 
     at = lowerPoint g power
 
     inside : suc at < g .points
-    unfolding at lowerPoint
-    inside = omega (arith, lower-most g power (g .points - 2), points-range g numbers .0)
+    unfolding at
+    inside = lower-inside g numbers power
 
     -- the line's own scale, times the other steps, is the curve's
     scale-is : g .rating * stepAt g at * otherSteps g at (g .points - 1) ≡ curveScale g

@@ -2,3 +2,8 @@
 pub mod Share
 pub mod Fuel
 pub mod Balance
+pub mod StationAt
+pub mod FuelMost
+pub mod KeptSets
+pub mod KeptRest
+pub mod Kept

@@ -5,11 +5,21 @@ use mathlib.Core.Path.{_≡_, refl, sym, ap, _∙_}
 use mathlib.Core.Bool.{Bool, true, false}
 use mathlib.Core.List.{List}
 use native.Mathlib.Omega.{arith}
-use native.Mathlib.Nat.{le-trans, mul-zero, mul-add, mul-comm, mul-sub, mul-le-mul-left, zero-div, mul-div-cancel, div-mul-le-self, lt-div-mul-add, mul-div-le, le-div-iff-mul-le}
+use native.Mathlib.Nat.{le-trans, mul-zero, mul-add, mul-comm, mul-sub, mul-le-mul-left, zero-div, mul-div-cancel, div-mul-le-self, lt-div-mul-add, mul-div-le, le-div-iff-mul-le, mul-le-mul-right, div-zero, add-mul-div-right}
 use Rattle.rules.specs.declared.station.GenSet.{GenSet}
 use Rattle.rules.specs.Numbers.{if_then_else_, has, sumTo}
 use Rattle.rules.specs.StationRecord.{setAt}
 use Rattle.rules.specs.Share.{runningTotal, capacity, share}
+
+-- the part that r of c takes of d, which is at most c
+part-most : (d t r c : ℕ) → d ≤ c → d * (t + r) / c - d * t / c ≤ r
+part-most d t r zero h = rw (div-zero (d * (t + r)), div-zero (d * t)) (omega arith)
+part-most d t r (suc c) h =
+    let more : d * (t + r) ≤ d * t + r * suc c = rw mul-add (omega (arith, mul-le-mul-right r h, mul-comm (suc c) r)) in
+    let some : 0 < suc c = omega arith in
+    let s : d * (t + r) / suc c ≤ (d * t + r * suc c) / suc c = le-div-iff-mul-le some .1 (le-trans (div-mul-le-self (d * (t + r)) (suc c)) more) in
+    let e : (d * t + r * suc c) / suc c ≡ d * t / suc c + r = add-mul-div-right (d * t) r some in
+    omega arith
 
 module _ (sets : List GenSet) (mask : ℕ) where
   -- the running total after one more place
@@ -65,3 +75,12 @@ module _ (sets : List GenSet) (mask : ℕ) where
         let high : diesel * runningTotal sets mask i < q * cap + cap = lt-div-mul-add some in
         let high′ : diesel * runningTotal sets mask (suc i) < r * cap + cap = lt-div-mul-add some in
         omega (arith, more, part, low, low′, high, high′, mul-comm q cap, mul-comm r cap)
+
+    -- no set takes more than its rating of what the capacity allows
+    pub share-most : diesel ≤ capacity sets mask → (i : ℕ) → share sets mask diesel i ≤ setAt sets i .rating
+    unfolding share
+    share-most h i = go (has mask i) refl
+      where
+        go : (b : Bool) → has mask i ≡ b → share sets mask diesel i ≤ setAt sets i .rating
+        go true e = rw (total-has i e) (part-most diesel (runningTotal sets mask i) (setAt sets i .rating) (capacity sets mask) h)
+        go false e = rw (share-outside i e) (omega arith)

@@ -59,16 +59,18 @@ modePossible g (Cooling n) = within 1 (g .cooldown) n
 modePossible g (Service n) = within 1 (g .service) n && ltb 0 (g .interval)
 
 -- "run seconds, service clock, starts, stops each <= done; energy <= rating x done; fuel <= 15,000,000,000 x done"
-abbrev pub countsPossible : GenSet → SetState → ℕ → Bool
-countsPossible g s done =
-    all
-    (leb (s .run) done
+abbrev pub countRules : GenSet → SetState → ℕ → List Bool
+countRules g s done =
+    leb (s .run) done
     ∷ leb (s .clock) done
     ∷ leb (s .starts) done
     ∷ leb (s .stops) done
     ∷ leb (s .energy) (g .rating * done)
     ∷ leb (s .fuel) (15_000_000_000 * done)
-    ∷ [])
+    ∷ []
+
+abbrev pub countsPossible : GenSet → SetState → ℕ → Bool
+countsPossible g s done = all (countRules g s done)
 
 -- "all zero or Off beyond the existing sets"
 abbrev pub stateUnused : SetState → Bool
@@ -84,10 +86,9 @@ statesPossible setcount sets states done =
     allTo 8 (λ i. statePossible (ltb i setcount) (setAt sets i) (stateAt states i) done)
 
 -- "station totals (solar offered and each watt column of the row) <= 50,000,000 x done"
-abbrev pub totalsPossible : Totals → ℕ → Bool
-totalsPossible t most =
-    all
-    (leb (t .offered) most
+abbrev pub totalRules : Totals → ℕ → List Bool
+totalRules t most =
+    leb (t .offered) most
     ∷ leb (t .load) most
     ∷ leb (t .shed) most
     ∷ leb (t .solar) most
@@ -96,7 +97,10 @@ totalsPossible t most =
     ∷ leb (t .give) most
     ∷ leb (t .diesel) most
     ∷ leb (t .unserved) most
-    ∷ [])
+    ∷ []
+
+abbrev pub totalsPossible : Totals → ℕ → Bool
+totalsPossible t most = all (totalRules t most)
 
 -- "decided shed amounts <= 50,000,000; all zero .. beyond .. the delay"
 unfoldable pub decidedPossible : ℕ → List ℕ → Bool
