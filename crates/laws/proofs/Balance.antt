@@ -1,8 +1,8 @@
 -- Document 01, steps 3 to 6, and the request's demand 3, for one second: the load is met, the solar goes somewhere, the store
 -- moves by what is charged and given and stays within its limits, and load is left unserved only where nothing more could
 -- serve it. Each law is of plain numbers. Assumes nothing.
-use Prim.Native.Nat.{ℕ, zero, suc, _+_, _-_, _*_, _/_, _≤_, _<_, min}
-use mathlib.Core.Path.{_≡_, refl, sym, ap, _∙_}
+use Prim.Native.Nat.{ℕ, _+_, _-_, _*_, _/_, _≤_, _<_, min}
+use mathlib.Core.Path.{_≡_}
 use native.Mathlib.Omega.{arith}
 use native.Mathlib.Nat.{div-mul-le-self, mul-le-mul-left, mul-le-mul-right, le-trans}
 use Rattle.rules.specs.declared.station.Battery.{Battery}

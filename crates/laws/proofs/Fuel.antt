@@ -2,17 +2,17 @@
 -- its sums over any list of powers: never above, and short of it by less than one unit for each second. Assumes nothing.
 use Prim.Native.Nat.{ℕ, zero, suc, _+_, _-_, _*_, _/_, _≤_, _<_}
 use mathlib.Core.Path.{_≡_, refl, sym, ap, subst, _∙_}
-use mathlib.Core.Bool.{Bool, true, false, _&&_}
+use mathlib.Core.Bool.{Bool, true, false}
 use mathlib.Core.List.{List, [], _∷_}
 use native.Mathlib.Omega.{arith}
 use native.Mathlib.Nat.{mul-one, mul-comm, mul-assoc, mul-pos, mul-le-mul-right, mul-lt-mul-of-pos-right, div-mul-le-self, div-lt-iff-lt-mul, add-mul, add-le-add, le-of-lt}
-use lib.Dec.{leb, ltb, eqb}
+use lib.Dec.{leb, eqb}
 use lib.ListN.{length, getD}
 use borrow.Author.Tests.{ne-eqb, eqb-true, eqb-false, lt-ltb, ltb-true}
 use Rattle.rules.specs.declared.station.GenSet.{GenSet}
 use Rattle.rules.specs.Numbers.{if_then_else_, allTo}
 use Rattle.rules.specs.StationRecord.{setRight, pairRight, rises, pairsRight}
-use Rattle.rules.specs.Fuel.{loadAt, rateAt, stepAt, lowerOf, lowerPoint, exactFrom, fuelRate, stepsTo, otherSteps, curveScale, exactCurve, exactSum, fuelSum}
+use Rattle.rules.specs.Fuel.{loadAt, stepAt, lowerOf, lowerPoint, exactFrom, fuelRate, stepsTo, otherSteps, curveScale, exactCurve, exactSum, fuelSum}
 use Rattle.rules.proofs.Tests.{both, to-at}
 use Rattle.rules.proofs.StationFacts.{rating-range, points-range}
 

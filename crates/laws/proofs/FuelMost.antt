@@ -1,16 +1,16 @@
 -- "fuel <= 15,000,000,000 x done": no set burns more than 15,000,000,000 mL/h at a power up to its rating. The greatest is
 -- 10,000,000 at a point, and 1,499 steps of 10,000,000 from there. Assumes nothing.
-use Prim.Native.Nat.{ℕ, zero, suc, _+_, _-_, _*_, _/_, _≤_, _<_, zero-le}
-use mathlib.Core.Path.{_≡_, refl, sym, ap, subst, _∙_}
+use Prim.Native.Nat.{ℕ, zero, suc, _+_, _-_, _*_, _≤_, _<_, zero-le}
+use mathlib.Core.Path.{_≡_, refl}
 use mathlib.Core.Bool.{Bool, true, false, cond, not}
 use native.Mathlib.Omega.{arith}
-use native.Mathlib.Nat.{le-refl, mul-le-mul, mul-le-mul-right, mul-comm, mul-one, div-le-of-le-mul}
+use native.Mathlib.Nat.{le-refl, mul-le-mul, mul-le-mul-right, mul-comm, div-le-of-le-mul}
 use lib.Dec.{T, ltb, ltb→lt}
 use lib.IntN.{ℤ, pos, negsuc, negℤ, natAbs, subℕ, _+ℤ_, _-ℤ_, _*ℤ_}
 use Rattle.rules.specs.declared.station.GenSet.{GenSet}
 use Rattle.rules.specs.StationRecord.{setRight, pairsRight}
 use Rattle.rules.specs.Fuel.{loadAt, rateAt, stepAt, exactLine, notBelowZero, lowerPoint, exactFrom, fuelRate}
-use Rattle.rules.proofs.StationFacts.{rating-range, points-range, pair-at}
+use Rattle.rules.proofs.StationFacts.{points-range, pair-at}
 use Rattle.laws.proofs.Fuel.{loads-rise, lower-inside}
 
 -- ---- whole numbers with a sign, by their distance from zero

@@ -1,12 +1,12 @@
 -- An accepted second leaves a possible record: so from the start 24 never occurs, and the bounds of "A run record is possible
 -- when" hold over every run. Assumes nothing.
-use Prim.Native.Nat.{ℕ, zero, suc, _+_, _-_, _*_, _^_, _≤_, _<_}
+use Prim.Native.Nat.{ℕ, _+_, _-_, _*_, _≤_, _<_}
 use mathlib.Core.Path.{_≡_, refl, sym, ap, _∙_}
-use mathlib.Core.Bool.{Bool, true, false, _&&_}
+use mathlib.Core.Bool.{Bool, true, false}
 use mathlib.Core.List.{List, [], _∷_}
 use native.Mathlib.Omega.{arith}
-use lib.Dec.{leb, ltb, eqb}
-use lib.ListN.{length, getD}
+use lib.Dec.{leb, ltb}
+use lib.ListN.{getD}
 use borrow.Author.Tests.{leb-true, le-leb, ltb-true, ltb-false}
 use Rattle.rules.specs.declared.station.Battery.{Battery}
 use Rattle.rules.specs.declared.station.GenSet.{GenSet}
@@ -17,17 +17,17 @@ use Rattle.rules.specs.declared.run.Inputs.{Inputs}
 use Rattle.rules.specs.declared.run.Watts.{Watts}
 use Rattle.rules.specs.declared.run.Run.{Run}
 use Rattle.rules.specs.declared.run.Step.{Step}
-use Rattle.rules.specs.Numbers.{if_then_else_, within, has, allTo, tab, all}
-use Rattle.rules.specs.Answers.{Answer, accepted, refused, need, _>>=_, _>>_}
+use Rattle.rules.specs.Numbers.{within, has}
+use Rattle.rules.specs.Answers.{accepted}
 use Rattle.rules.specs.StationRecord.{setAt, someFileGives}
-use Rattle.rules.specs.Share.{capacity, share}
+use Rattle.rules.specs.Share.{share}
 use Rattle.rules.specs.Modes.{fresh, stateAt, tick, ticked}
-use Rattle.rules.specs.Flows.{wattsFor, wattsWith, floorLoad, shedNow, solarOnLoad, batteryGives, dieselFor, storeAfter, shedDecided}
+use Rattle.rules.specs.Flows.{wattsFor, wattsWith, floorLoad, shedNow, solarOnLoad, dieselFor, shedDecided}
 use Rattle.rules.specs.Commands.{counted, countedAll, command, commandedAll, everyOn}
 use Rattle.rules.specs.Configuration.{maskCalled}
 use Rattle.rules.specs.RunRecord.{mostSeconds, statePossible, statesPossible, totalsPossible, decidedPossible, recordRules, possible}
 use Rattle.rules.specs.Second.{statesNow, onNow, capNow, wattsNow, storeNow, decidedNow, ranNow, heldNow, callNow, commandedNow, plus, recordAfter, step, inputsRight, admitted, second}
-use Rattle.rules.proofs.Tests.{both, and-true, all-at, to-at, to-all, within-fact, fact-within}
+use Rattle.rules.proofs.Tests.{and-true, all-at, to-at, to-all, within-fact, fact-within}
 use Rattle.rules.proofs.Checks.{passed, both-passed, same-value}
 use Rattle.rules.proofs.Tables.{tab-at, has-beyond}
 use Rattle.rules.proofs.Shapes.{Shaped}

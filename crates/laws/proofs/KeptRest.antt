@@ -1,9 +1,9 @@
 -- The rest of a possible record stays possible through a second: what is called, the totals, the decided amounts.
 -- Assumes nothing.
-use Prim.Native.Nat.{ℕ, zero, suc, _+_, _-_, _*_, _/_, _≤_, _<_, min}
-use mathlib.Core.Path.{_≡_, refl, sym, ap, _∙_}
+use Prim.Native.Nat.{ℕ, suc, _+_, _-_, _*_, _≤_, _<_, min}
+use mathlib.Core.Path.{_≡_, ap, _∙_}
 use mathlib.Core.Bool.{Bool, true, false, _&&_}
-use mathlib.Core.List.{List, [], _∷_, _++_}
+use mathlib.Core.List.{List, [], _∷_}
 use native.Mathlib.Omega.{arith}
 use native.Mathlib.Decide.{decLt}
 use lib.Dec.{leb, ltb, eqb}
@@ -19,9 +19,9 @@ use Rattle.rules.specs.declared.run.SetState.{SetState}
 use Rattle.rules.specs.declared.run.Watts.{Watts}
 use Rattle.rules.specs.declared.run.Totals.{Totals}
 use Rattle.rules.specs.declared.run.Inputs.{Inputs}
-use Rattle.rules.specs.Numbers.{if_then_else_, allTo, all}
+use Rattle.rules.specs.Numbers.{if_then_else_}
 use Rattle.rules.specs.Share.{capacity}
-use Rattle.rules.specs.Flows.{floorLoad, shedNow, solarOnLoad, batteryGives, batteryTakes, dieselFor, wattsWith, wattsFor, shedDecided, percent, decidedAfter}
+use Rattle.rules.specs.Flows.{floorLoad, shedNow, solarOnLoad, batteryGives, batteryTakes, dieselFor, wattsWith, wattsFor, shedDecided, decidedAfter}
 use Rattle.rules.specs.Configuration.{maskCalled, usable, usableCovering, firstCovering, greatestUsable, chosen, sinceAfter}
 use Rattle.rules.specs.RunRecord.{totalRules, totalsPossible, decidedPossible}
 use Rattle.rules.specs.Second.{plus}

@@ -1,8 +1,8 @@
 -- A possible state of a set stays possible through a second: modes tick, counts, commands. Assumes nothing.
-use Prim.Native.Nat.{ℕ, zero, suc, _+_, _-_, _*_, _≤_, _<_}
-use mathlib.Core.Path.{_≡_, refl, sym, ap, _∙_}
-use mathlib.Core.Bool.{Bool, true, false, _&&_}
-use mathlib.Core.List.{List, [], _∷_}
+use Prim.Native.Nat.{ℕ, _+_, _-_, _*_, _≤_}
+use mathlib.Core.Path.{_≡_, refl, ap, _∙_}
+use mathlib.Core.Bool.{Bool, true, false}
+use mathlib.Core.List.{[], _∷_}
 use native.Mathlib.Omega.{arith}
 use native.Mathlib.Nat.{mul-add, mul-one}
 use lib.Dec.{leb, ltb, eqb}
@@ -11,7 +11,7 @@ use Rattle.rules.specs.declared.station.GenSet.{GenSet}
 use Rattle.rules.specs.declared.run.Mode.{Mode}
 use Rattle.rules.specs.declared.run.Mode.the-variants.{Off, Warming, On, Cooling, Service}
 use Rattle.rules.specs.declared.run.SetState.{SetState}
-use Rattle.rules.specs.Numbers.{if_then_else_, within, all, every, allZero}
+use Rattle.rules.specs.Numbers.{if_then_else_, within, allZero}
 use Rattle.rules.specs.StationRecord.{setRight, serviceRight}
 use Rattle.rules.specs.Fuel.{fuelRate}
 use Rattle.rules.specs.Modes.{isOn, isOff, due, withMode, tickFrom, tick}

@@ -1,13 +1,13 @@
 -- Document 01, step 6: the shares of a mask's sets sum to the diesel, each is "within one watt of its proportion", and a set
 -- that the mask has not takes nothing. Assumes nothing.
 use Prim.Native.Nat.{ℕ, zero, suc, _+_, _-_, _*_, _/_, _≤_, _<_}
-use mathlib.Core.Path.{_≡_, refl, sym, ap, _∙_}
+use mathlib.Core.Path.{_≡_, refl, _∙_}
 use mathlib.Core.Bool.{Bool, true, false}
 use mathlib.Core.List.{List}
 use native.Mathlib.Omega.{arith}
 use native.Mathlib.Nat.{le-trans, mul-zero, mul-add, mul-comm, mul-sub, mul-le-mul-left, zero-div, mul-div-cancel, div-mul-le-self, lt-div-mul-add, mul-div-le, le-div-iff-mul-le, mul-le-mul-right, div-zero, add-mul-div-right}
 use Rattle.rules.specs.declared.station.GenSet.{GenSet}
-use Rattle.rules.specs.Numbers.{if_then_else_, has, sumTo}
+use Rattle.rules.specs.Numbers.{has, sumTo}
 use Rattle.rules.specs.StationRecord.{setAt}
 use Rattle.rules.specs.Share.{runningTotal, capacity, share}
 

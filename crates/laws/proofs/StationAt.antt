@@ -1,20 +1,20 @@
 -- A station record that some file gives, place by place: its sets' checks passed, and its configurations call existing sets
 -- only. Assumes nothing.
-use Prim.Native.Nat.{ℕ, zero, suc, _+_, _-_, _*_, _^_, _≤_, _<_}
-use mathlib.Core.Path.{_≡_, refl, sym, ap, _∙_}
-use mathlib.Core.Bool.{Bool, true, false, _&&_}
+use Prim.Native.Nat.{ℕ, zero, suc, _^_, _≤_, _<_}
+use mathlib.Core.Path.{_≡_}
+use mathlib.Core.Bool.{true}
 use mathlib.Core.List.{List, [], _∷_}
 use native.Mathlib.Omega.{arith}
 use native.Mathlib.Nat.{not-suc-le-zero}
-use lib.Dec.{leb, ltb, eqb}
+use lib.Dec.{ltb}
 use lib.ListN.{length, getD, take, length-take}
 use lib.Pow.{pow-pos}
 use lib.Seq.{getD-take}
 use borrow.Author.Tests.{ltb-true}
 use Rattle.rules.specs.declared.station.GenSet.{GenSet}
 use Rattle.rules.specs.declared.station.Station.{Station}
-use Rattle.rules.specs.Numbers.{has, existingOnly}
-use Rattle.rules.specs.Answers.{Answer, accepted, refused, need, _>>=_, _>>_}
+use Rattle.rules.specs.Numbers.{existingOnly}
+use Rattle.rules.specs.Answers.{accepted, need, _>>_}
 use Rattle.rules.specs.StationRecord.{pastEnd, setAt, setRight, pairsRight, configurationRight, setsRight, configurationsRight}
 use Rattle.rules.specs.Configuration.{maskCalled}
 use Rattle.rules.proofs.Tests.{both}

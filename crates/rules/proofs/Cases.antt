@@ -1,8 +1,7 @@
 -- Document 01's worked cases P1 to P12, proved: for each case of the table, what the definitions give is what the paper shows.
 -- By computation alone, P1 from the bytes of both files and of the seconds asked to the bytes printed. Assumes nothing.
 use mathlib.Core.Path.{_≡_, refl}
-use mathlib.Core.List.{List, map}
-use Prim.Native.Nat.{ℕ}
+use mathlib.Core.List.{map}
 use lib.Ieee
 use lib.Count
 use Rattle.rules.specs.Numbers

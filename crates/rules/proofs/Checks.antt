@@ -1,8 +1,8 @@
 -- Checks one after the other: what an answer says of each of them. Assumes nothing.
 use Prim.Native.Nat.{ℕ}
-use mathlib.Core.Path.{_≡_, refl, sym, ap, _∙_}
+use mathlib.Core.Path.{_≡_, refl}
 use mathlib.Core.Bool.{Bool, true, false}
-use Rattle.rules.specs.Answers.{Answer, accepted, refused, need, isAccepted, _>>=_, _>>_}
+use Rattle.rules.specs.Answers.{Answer, accepted, refused, need, isAccepted, _>>_}
 use native.Mathlib.Omega.{arith}
 
 -- a check that passes leaves the rest

@@ -1,17 +1,16 @@
 -- Laws at the paper's edges, where its words fix what no worked case shows. Assumes nothing.
 use Prim.Native.Nat.{ℕ, zero, suc, _+_, _-_, _*_, _/_, _%_, _^_, _≤_, _<_}
-use mathlib.Core.Path.{_≡_, refl, sym, ap, _∙_}
+use mathlib.Core.Path.{_≡_, refl, _∙_}
 use mathlib.Core.Bool.{Bool, true, false}
 use mathlib.Core.List.{List, [], _∷_, _++_}
 use native.Mathlib.Omega.{arith}
 use native.Mathlib.Nat.{pow-suc}
 use lib.Dec.{ltb}
-use borrow.Author.Tests.{ltb-true, ltb-false}
 use Rattle.rules.specs.declared.station.Control.{Control}
 use Rattle.rules.specs.Numbers.{if_then_else_}
 use Rattle.rules.specs.Bytes.{point, digitsIn, decimal, digits, valueFrom, value, parts}
-use Rattle.rules.specs.Answers.{Answer, accepted, refused}
-use Rattle.rules.specs.SampleFile.{limited, timeCell, powerForm, powerCell}
+use Rattle.rules.specs.Answers.{refused}
+use Rattle.rules.specs.SampleFile.{timeCell, powerForm, powerCell}
 use Rattle.rules.specs.Setpoint.{coverageOf}
 
 -- ---- step 9: coverage is "rounded up"

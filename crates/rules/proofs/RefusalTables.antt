@@ -1,13 +1,12 @@
 -- Each call's refusals are those of its own table, with their places. Assumes nothing.
-use Prim.Native.Nat.{ℕ, zero, suc, _+_, _-_, _*_, _≤_, _<_, min}
-use mathlib.Core.Path.{_≡_, refl, sym, ap, _∙_}
+use Prim.Native.Nat.{ℕ, zero, suc, _+_, _≤_}
+use mathlib.Core.Path.{_≡_, refl}
 use mathlib.Core.Bool.{Bool, true, false, not, _&&_, _||_}
-use mathlib.Core.List.{List, [], _∷_, _++_, map}
+use mathlib.Core.List.{List, [], _∷_, _++_}
 use native.Mathlib.Omega.{arith}
 use lib.Count.{ones}
 use lib.Dec.{leb, ltb, eqb}
-use lib.ListN.{length, getD, take, drop, length-take}
-use borrow.Author.Tests.{eq-eqb}
+use lib.ListN.{length, getD, take, length-take}
 use Rattle.rules.specs.declared.station.GenSet.{GenSet}
 use Rattle.rules.specs.declared.station.Station.{Station}
 use Rattle.rules.specs.declared.run.Run.{Run}
@@ -18,13 +17,13 @@ use Rattle.rules.specs.Lines.{Line, lines, cellsOf}
 use Rattle.rules.specs.Answers.{Answer, accepted, refused, need, _>>=_, _>>_}
 use Rattle.rules.specs.StationRecord.{controlRight, batteryRight, setRight, pairsRight, configurationRight, setsRight, configurationsRight, valuesRight, someFileGives}
 use Rattle.rules.specs.StationFile.{countAt, configsOffset, entryRight, recordOf, stationFile}
-use Rattle.rules.specs.SampleFile.{Sheet, sampleSheet, nameOf, occurs, headings, headingLine, limited, timeCell, powerCell, powerForm, powerValue, cell, cellValues, valueUnder, agreeing, rowValues, timeIn, laterRows, rowsAfter, sheetLines, sampleFile}
+use Rattle.rules.specs.SampleFile.{Sheet, sampleSheet, nameOf, occurs, headings, headingLine, limited, timeCell, powerCell, powerForm, powerValue, cell, cellValues, valueUnder, rowValues, timeIn, laterRows, rowsAfter, sheetLines, sampleFile}
 use Rattle.rules.specs.Share.{capacity}
-use Rattle.rules.specs.RunRecord.{start, startRecord, possible, mostSeconds}
+use Rattle.rules.specs.RunRecord.{start, possible, mostSeconds}
 use Rattle.rules.specs.Second.{inputsRight, admitted, second}
-use Rattle.rules.specs.Sizing.{stationCheck, sampleCheck, shareAsked, rateAsked}
+use Rattle.rules.specs.Sizing.{shareAsked, rateAsked}
 use Rattle.rules.specs.Run.{secondsAsked, runOf}
-use Rattle.rules.specs.RefusalTables.{Fault, fault, faultAt, listed, RefusedIn, stationFaults, sampleFaults, secondsFaults, runFaults, sizingFaults, startFaults, secondFaults}
+use Rattle.rules.specs.RefusalTables.{Fault, fault, listed, RefusedIn, stationFaults, sampleFaults, secondsFaults, runFaults, sizingFaults, startFaults, secondFaults}
 use Rattle.rules.proofs.Tests.{never, within-fact, fact-within}
 use Rattle.rules.proofs.StationRead.{entry-count}
 

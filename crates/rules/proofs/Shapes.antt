@@ -1,5 +1,4 @@
 -- The shape of a station record: its arrays have their lengths, as every `Station` of the code has. Assumes nothing.
-use Prim.Native.Nat.{ℕ}
 use mathlib.Core.Path.{_≡_}
 use mathlib.Core.List.{List, [], _∷_}
 use lib.ListN.{length}

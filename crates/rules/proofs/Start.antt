@@ -1,26 +1,23 @@
 -- The record at the start of a run is possible, for every station record that some file gives. Assumes nothing.
-use Prim.Native.Nat.{ℕ, zero, suc, _+_, _-_, _*_, _^_, _≤_, _<_}
-use mathlib.Core.Path.{_≡_, refl, sym, ap, _∙_}
-use mathlib.Core.Bool.{Bool, true, false, _&&_}
-use mathlib.Core.List.{List, [], _∷_}
+use Prim.Native.Nat.{ℕ, _*_, _^_, _<_}
+use mathlib.Core.Path.{_≡_, refl, sym}
+use mathlib.Core.Bool.{Bool, true, false}
+use mathlib.Core.List.{List}
 use native.Mathlib.Omega.{arith}
-use lib.Dec.{leb, ltb, eqb}
-use lib.ListN.{getD, take, replicate, getD-replicate}
+use lib.Dec.{leb, ltb}
+use lib.ListN.{replicate, getD-replicate}
 use borrow.Author.Tests.{le-leb, ltb-true, ltb-false}
 use Rattle.rules.specs.declared.station.GenSet.{GenSet}
 use Rattle.rules.specs.declared.station.Station.{Station}
 use Rattle.rules.specs.declared.run.Mode.{Mode}
 use Rattle.rules.specs.declared.run.Mode.the-variants.{Off, On}
-use Rattle.rules.specs.declared.run.SetState.{SetState}
-use Rattle.rules.specs.Numbers.{if_then_else_, within, has, existingOnly, allTo, tab, all, allFrom, every}
-use Rattle.rules.specs.Answers.{Answer, accepted, refused, need, isAccepted, _>>=_, _>>_}
-use Rattle.rules.specs.StationRecord.{setAt, controlRight, batteryRight, setsRight, configurationsRight, valuesRight, stationRules, someFileGives}
+use Rattle.rules.specs.Numbers.{if_then_else_, has, tab, every}
+use Rattle.rules.specs.StationRecord.{setAt, someFileGives}
 use Rattle.rules.specs.Modes.{fresh, stateAt}
-use Rattle.rules.specs.RunRecord.{startRecord, start, mostSeconds, modePossible, countsPossible, stateUnused, statePossible, statesPossible, decidedPossible, recordRules, possible}
-use Rattle.rules.proofs.Tests.{never, and-true, all-at, to-all, fact-within}
-use Rattle.rules.proofs.Checks.{passes, passed, is-accepted}
+use Rattle.rules.specs.RunRecord.{startRecord, start, modePossible, countsPossible, statePossible, statesPossible, decidedPossible, possible}
+use Rattle.rules.proofs.Tests.{never, and-true, to-all, fact-within}
 use Rattle.rules.proofs.Tables.{tab-at, has-beyond}
-use Rattle.rules.proofs.StationFacts.{Right, right-of, online-existing, least-start, start-most}
+use Rattle.rules.proofs.StationFacts.{right-of, online-existing, least-start, start-most}
 
 zero-within : (n : ℕ) → leb 0 n ≡ true
 zero-within n = le-leb 0 n (omega arith)

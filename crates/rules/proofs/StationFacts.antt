@@ -1,23 +1,23 @@
 -- What is known of the values of a station record whose checks passed. Assumes nothing.
-use Prim.Native.Nat.{ℕ, zero, suc, _+_, _-_, _*_, _^_, _≤_, _<_}
-use mathlib.Core.Path.{_≡_, refl, sym, ap, _∙_}
+use Prim.Native.Nat.{ℕ, zero, suc, _^_, _≤_, _<_}
+use mathlib.Core.Path.{_≡_}
 use mathlib.Core.Bool.{Bool, true, false, _&&_}
-use mathlib.Core.List.{List, [], _∷_, _++_}
+use mathlib.Core.List.{[], _∷_}
 use native.Mathlib.Omega.{arith}
 use native.Mathlib.Nat.{lt-of-lt-of-le}
 use lib.Dec.{leb, ltb, eqb}
-use lib.ListN.{length, getD, take, drop}
+use lib.ListN.{getD, take, drop}
 use lib.Pow.{pow-mono}
 use borrow.Author.Tests.{leb-true, ltb-true, eqb-true}
 use Rattle.rules.specs.declared.station.Control.{Control}
 use Rattle.rules.specs.declared.station.Battery.{Battery}
 use Rattle.rules.specs.declared.station.GenSet.{GenSet}
 use Rattle.rules.specs.declared.station.Station.{Station}
-use Rattle.rules.specs.Numbers.{if_then_else_, within, existingOnly, allTo, all, every, allZero}
-use Rattle.rules.specs.Answers.{Answer, accepted, refused, need, isAccepted, _>>=_, _>>_}
-use Rattle.rules.specs.StationRecord.{controlRules, controlRight, batteryRules, batteryRight, serviceRight, setRules, setRight, pairRight, rises, pairsRight, configurationRight, setsRight, configurationsRight, valuesRight, setUnused, stationRules, someFileGives}
+use Rattle.rules.specs.Numbers.{if_then_else_, within, existingOnly, allTo, every, allZero}
+use Rattle.rules.specs.Answers.{Answer, accepted, need, _>>_}
+use Rattle.rules.specs.StationRecord.{controlRules, controlRight, batteryRules, batteryRight, serviceRight, setRules, setRight, pairRight, rises, pairsRight, setsRight, configurationsRight, valuesRight, setUnused, stationRules, someFileGives}
 use Rattle.rules.specs.StationFile.{controlNumbers, setNumbers}
-use Rattle.rules.proofs.Tests.{never, both, all-at, to-at, within-fact}
+use Rattle.rules.proofs.Tests.{both, all-at, to-at, within-fact}
 use Rattle.rules.proofs.Checks.{passed, both-passed, is-accepted}
 use Rattle.rules.proofs.LittleEndian.{AllBelow}
 

@@ -1,6 +1,6 @@
 -- 25, "station record that no file gives": the computed test of a record holds exactly when some file, a list of bytes,
 -- gives the record. Assumes nothing.
-use Prim.Native.Nat.{ℕ, zero, suc, _%_, _/_, _<_}
+use Prim.Native.Nat.{ℕ, zero, suc, _/_}
 use mathlib.Core.Path.{_≡_}
 use mathlib.Core.Bool.{true}
 use mathlib.Core.Logic.{_↔_}

@@ -1,18 +1,18 @@
 -- What the reader of a station file gives is a record that passes the checks of 25, in its shape. Assumes nothing.
-use Prim.Native.Nat.{ℕ, zero, suc, _+_, _-_, _*_, _≤_, _<_}
+use Prim.Native.Nat.{ℕ, zero, suc, _+_, _-_}
 use mathlib.Core.Path.{_≡_, refl, sym, ap, _∙_}
-use mathlib.Core.Bool.{Bool, true, false, _&&_}
-use mathlib.Core.List.{List, [], _∷_, _++_}
+use mathlib.Core.Bool.{true, _&&_}
+use mathlib.Core.List.{List, _++_}
 use native.Mathlib.Omega.{arith}
-use lib.Dec.{leb, ltb, eqb}
-use lib.ListN.{length, getD, take, drop, replicate, length-append, length-replicate}
+use lib.Dec.{eqb}
+use lib.ListN.{length, drop, replicate, length-append, length-replicate}
 use lib.Seq.{drop-at}
 use Rattle.rules.specs.declared.station.GenSet.{GenSet}
 use Rattle.rules.specs.declared.station.Station.{Station}
-use Rattle.rules.specs.Numbers.{within, all, every, allZero}
+use Rattle.rules.specs.Numbers.{within, every, allZero}
 use Rattle.rules.specs.Bytes.{littles}
-use Rattle.rules.specs.Answers.{Answer, accepted, refused, need, isAccepted, _>>=_, _>>_}
-use Rattle.rules.specs.StationRecord.{noSet, valuesRight, setUnused, stationRules, someFileGives}
+use Rattle.rules.specs.Answers.{accepted, isAccepted}
+use Rattle.rules.specs.StationRecord.{noSet, valuesRight, setUnused, someFileGives}
 use Rattle.rules.specs.StationFile.{kindAt, countAt, offsetAt, configsOffset, entryRight, setsOf, recordOf, stationFile}
 use Rattle.rules.proofs.Tests.{both, and-true, within-fact}
 use Rattle.rules.proofs.Checks.{passed, both-passed, same-value}

@@ -1,27 +1,24 @@
 -- The file of a station record is read back as that record, where its counts and values are in rule and what is past the
 -- counts is zero. Assumes nothing.
-use Prim.Native.Nat.{ℕ, zero, suc, _+_, _-_, _*_, _%_, _/_, _^_, _≤_, _<_}
+use Prim.Native.Nat.{ℕ, zero, suc, _+_, _-_, _*_, _^_, _≤_, _<_}
 use mathlib.Core.Path.{_≡_, refl, sym, ap, ap₂, _∙_}
-use mathlib.Core.Bool.{Bool, true, false, _&&_}
+use mathlib.Core.Bool.{Bool, true}
 use mathlib.Core.List.{List, [], _∷_, _++_, append-assoc, append-nil}
 use native.Mathlib.Omega.{arith}
-use native.Mathlib.Nat.{mod-lt, mul-suc, mul-zero}
-use lib.Dec.{leb, ltb, eqb}
-use lib.ListN.{length, getD, take, drop, replicate, length-append, length-take, length-drop, length-replicate, take-append-drop}
+use lib.Dec.{ltb, eqb}
+use lib.ListN.{length, getD, take, drop, replicate, length-append, length-take, length-drop, take-append-drop}
 use lib.Seq.{drop-at, drop-drop}
 use borrow.Author.Tests.{eq-eqb, eqb-true}
-use Rattle.rules.specs.declared.station.Control.{Control}
-use Rattle.rules.specs.declared.station.Battery.{Battery}
 use Rattle.rules.specs.declared.station.GenSet.{GenSet}
 use Rattle.rules.specs.declared.station.Station.{Station}
-use Rattle.rules.specs.Numbers.{if_then_else_, within, existingOnly, all, every, allZero}
+use Rattle.rules.specs.Numbers.{within, existingOnly, every, allZero}
 use Rattle.rules.specs.Bytes.{little, littles, bytesOf, bytesOfAll}
-use Rattle.rules.specs.Answers.{Answer, accepted, refused, need, isAccepted, _>>=_, _>>_}
-use Rattle.rules.specs.StationRecord.{noSet, setRight, pairsRight, controlRight, batteryRight, configurationRight, setsRight, configurationsRight, valuesRight, setUnused, stationRules, someFileGives}
-use Rattle.rules.specs.StationFile.{kindAt, countAt, offsetAt, setsKind, setSize, controlOffset, batteryOffset, setsOffset, configsOffset, entryRight, controlOf, batteryOf, setOf, setsOf, recordOf, stationFile, entry, controlNumbers, setNumbers, setsBytes, contentsBytes, batteryBytes, fileOf}
-use Rattle.rules.proofs.Tests.{never, both, and-true, all-at, within-fact, fact-within}
-use Rattle.rules.proofs.Checks.{passes, passed, both-passed, is-accepted, same-value}
-use Rattle.rules.proofs.LittleEndian.{AllBelow, length-bytes, length-all, reads-back, read-back-all}
+use Rattle.rules.specs.Answers.{Answer, accepted, need, _>>=_, _>>_}
+use Rattle.rules.specs.StationRecord.{noSet, setRight, pairsRight, configurationRight, setsRight, configurationsRight, valuesRight, setUnused, someFileGives}
+use Rattle.rules.specs.StationFile.{kindAt, countAt, offsetAt, setsKind, setSize, controlOffset, batteryOffset, setsOffset, configsOffset, entryRight, controlOf, batteryOf, setOf, setsOf, recordOf, stationFile, controlNumbers, setNumbers, setsBytes, contentsBytes, batteryBytes, fileOf}
+use Rattle.rules.proofs.Tests.{both, and-true, all-at, fact-within}
+use Rattle.rules.proofs.Checks.{passes, passed}
+use Rattle.rules.proofs.LittleEndian.{AllBelow, length-all, reads-back, read-back-all}
 use Rattle.rules.proofs.Shapes.{ShapedSets, Shaped}
 use Rattle.rules.proofs.StationFacts.{Right, right-of, mask-below, control-fits, rating-fits, contents-fit, set-fits}
 

@@ -5,7 +5,7 @@ use Rattle.rules.specs.declared.station.Control.{Control}
 use Rattle.rules.specs.declared.station.Battery.{Battery}
 use Rattle.rules.specs.declared.station.GenSet.{GenSet}
 use Rattle.rules.specs.declared.station.Station.{Station}
-use Rattle.rules.specs.Bytes.{bytes, bytesOf, bytesOfAll}
+use Rattle.rules.specs.Bytes.{bytes, bytesOfAll}
 use Rattle.rules.specs.Answers.{refusal}
 use Rattle.rules.specs.StationRecord.{setAt}
 use Rattle.rules.specs.StationFile.{entry, recordOf}

@@ -1,7 +1,7 @@
 -- Document 01, steps 2 to 7, on plain numbers: where a second's load is met from, and what is shed.
-use Prim.Native.Nat.{ℕ, zero, suc, _+_, _-_, _*_, _/_, min, max}
-use mathlib.Core.List.{List, [], _∷_, _++_}
-use lib.ListN.{getD, take, drop}
+use Prim.Native.Nat.{ℕ, _+_, _-_, _*_, _/_, min}
+use mathlib.Core.List.{List, _∷_, _++_}
+use lib.ListN.{take, drop}
 use Rattle.rules.specs.declared.station.Battery.{Battery}
 use Rattle.rules.specs.declared.station.Control.{Control}
 use Rattle.rules.specs.declared.run.Inputs.{Inputs}

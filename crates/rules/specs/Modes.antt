@@ -1,7 +1,7 @@
 -- Document 01, steps 1 and 2: the sets' modes tick, and the sets On.
-use Prim.Native.Nat.{ℕ, _-_, _+_}
+use Prim.Native.Nat.{ℕ, _-_}
 use mathlib.Core.Bool.{Bool, true, false, _&&_}
-use mathlib.Core.List.{List, [], _∷_}
+use mathlib.Core.List.{List}
 use lib.ListN.{getD}
 use lib.Dec.{leb, ltb}
 use Rattle.rules.specs.declared.station.GenSet.{GenSet}

@@ -1,7 +1,7 @@
 -- Words that every other file uses: a choice, ranges, masks of sets, and sums, tests and tables over places.
 -- Places count from 0 here: the paper's set 1, whose bit is bit 0, is place 0.
 -- `-` on natural numbers stops at zero: `a - b` is the paper's max(0, a - b). `/` rounds down, as 01 says of all divisions.
-use Prim.Native.Nat.{ℕ, zero, suc, _+_, _-_, _*_, _/_, _%_, _^_}
+use Prim.Native.Nat.{ℕ, zero, suc, _+_, _/_, _%_, _^_}
 use mathlib.Core.Bool.{Bool, true, false, _&&_}
 use mathlib.Core.List.{List, [], _∷_, _++_}
 use lib.Dec.{leb, ltb, eqb}

@@ -1,7 +1,6 @@
 -- Document 01, "Station A, five seconds, whole": the lines that the run program prints.
-use Prim.Native.Nat.{ℕ, zero, suc, _+_}
+use Prim.Native.Nat.{ℕ, suc}
 use mathlib.Core.List.{List, [], _∷_, _++_}
-use lib.ListN.{take}
 use Rattle.rules.specs.declared.run.Row.{Row}
 use Rattle.rules.specs.declared.run.SetState.{SetState}
 use Rattle.rules.specs.Bytes.{bytes, commaLine}

@@ -1,6 +1,6 @@
 -- Document 01, the run program: the bytes that it prints for two files and the seconds asked.
 use Prim.Native.Nat.{ℕ, zero, suc}
-use mathlib.Core.List.{List, [], _∷_, _++_}
+use mathlib.Core.List.{List, _++_}
 use lib.ListN.{take}
 use lib.Dec.{leb}
 use Rattle.rules.specs.declared.station.Station.{Station}

@@ -1,9 +1,9 @@
 -- Document 01: the run's record at the start, and "A run record is possible when" (24).
-use Prim.Native.Nat.{ℕ, _+_, _*_}
-use mathlib.Core.Bool.{Bool, true, false, _&&_}
+use Prim.Native.Nat.{ℕ, _*_}
+use mathlib.Core.Bool.{Bool, true, _&&_}
 use mathlib.Core.List.{List, [], _∷_}
-use lib.ListN.{take, drop, getD, replicate}
-use lib.Dec.{leb, ltb, eqb}
+use lib.ListN.{getD, replicate}
+use lib.Dec.{leb, ltb}
 use Rattle.rules.specs.declared.station.GenSet.{GenSet}
 use Rattle.rules.specs.declared.station.Station.{Station}
 use Rattle.rules.specs.declared.run.Mode.{Mode}
@@ -13,7 +13,7 @@ use Rattle.rules.specs.declared.run.Held.the-variants.{Absent}
 use Rattle.rules.specs.declared.run.Totals.{Totals}
 use Rattle.rules.specs.declared.run.Run.{Run}
 use Rattle.rules.specs.Numbers.{if_then_else_, within, has, allTo, tab, all, allZero}
-use Rattle.rules.specs.Answers.{Answer, accepted, refused, need, _>>=_, _>>_}
+use Rattle.rules.specs.Answers.{Answer, accepted, need, _>>_}
 use Rattle.rules.specs.StationRecord.{setAt, someFileGives}
 use Rattle.rules.specs.Modes.{fresh, stateAt, isOff}
 

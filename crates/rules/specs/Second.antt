@@ -1,7 +1,7 @@
 -- Document 01, "One second": the eleven steps in their order, and what a call of a second owes.
-use Prim.Native.Nat.{ℕ, _+_, _-_}
-use mathlib.Core.Bool.{Bool, true, false, _&&_}
-use mathlib.Core.List.{List, [], _∷_, _++_}
+use Prim.Native.Nat.{ℕ, _+_}
+use mathlib.Core.Bool.{Bool, _&&_}
+use mathlib.Core.List.{List, _++_}
 use mathlib.Core.Path.{_≡_}
 use lib.ListN.{length, getD, drop}
 use lib.Dec.{leb, ltb}
@@ -17,7 +17,7 @@ use Rattle.rules.specs.declared.run.Run.{Run}
 use Rattle.rules.specs.declared.run.Row.{Row}
 use Rattle.rules.specs.declared.run.Step.{Step}
 use Rattle.rules.specs.declared.run.Handed.{Handed}
-use Rattle.rules.specs.Answers.{Answer, accepted, refused, need, _>>=_, _>>_, outcomeOf}
+use Rattle.rules.specs.Answers.{Answer, accepted, refused, need, _>>_, outcomeOf}
 use Rattle.rules.specs.StationRecord.{someFileGives}
 use Rattle.rules.specs.Share.{capacity}
 use Rattle.rules.specs.Modes.{ticked, onMask}

@@ -1,5 +1,5 @@
 -- Document 01, steps 2 and 6: the capacity of a mask, and the power that each of its sets takes.
-use Prim.Native.Nat.{ℕ, zero, suc, _+_, _-_, _*_, _/_}
+use Prim.Native.Nat.{ℕ, suc, _-_, _*_, _/_}
 use mathlib.Core.List.{List}
 use Rattle.rules.specs.declared.station.GenSet.{GenSet}
 use Rattle.rules.specs.Numbers.{if_then_else_, has, sumTo}

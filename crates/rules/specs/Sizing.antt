@@ -1,12 +1,12 @@
 -- Document 01, its last paragraph: share and fuel rate, as the C sizing screen asks for them.
 use Prim.Native.Nat.{ℕ, zero, suc}
-use mathlib.Core.Bool.{Bool, _&&_}
+use mathlib.Core.Bool.{_&&_}
 use mathlib.Core.List.{List}
 use lib.Count.{ones}
 use lib.Dec.{leb, ltb, eqb}
 use Rattle.rules.specs.declared.station.Station.{Station}
 use Rattle.rules.specs.Numbers.{if_then_else_, has, existingOnly, sumTo}
-use Rattle.rules.specs.Answers.{Answer, accepted, refused, need, _>>=_, _>>_}
+use Rattle.rules.specs.Answers.{Answer, accepted, need, _>>=_, _>>_}
 use Rattle.rules.specs.StationRecord.{setAt}
 use Rattle.rules.specs.StationFile.{stationFile}
 use Rattle.rules.specs.Share.{capacity, share}

@@ -1,6 +1,6 @@
 -- Document 01, "The station file": the record that the bytes of a file give, or the refusal.
 use Prim.Native.Nat.{ℕ, zero, suc, _+_, _-_, _*_}
-use mathlib.Core.Bool.{Bool, true, false, _&&_}
+use mathlib.Core.Bool.{Bool, _&&_}
 use mathlib.Core.List.{List, [], _∷_, _++_}
 use lib.ListN.{length, take, drop, getD, replicate}
 use lib.Dec.{eqb}
@@ -10,7 +10,7 @@ use Rattle.rules.specs.declared.station.GenSet.{GenSet}
 use Rattle.rules.specs.declared.station.Station.{Station}
 use Rattle.rules.specs.Numbers.{within}
 use Rattle.rules.specs.Bytes.{little, littles, bytesOf, bytesOfAll}
-use Rattle.rules.specs.Answers.{Answer, accepted, refused, need, _>>=_, _>>_}
+use Rattle.rules.specs.Answers.{Answer, accepted, need, _>>_}
 use Rattle.rules.specs.StationRecord.{noSet, valuesRight}
 
 -- ---- the table of contents: "four entries of 8 bytes, each kind (2 bytes), count (2), offset (4)"

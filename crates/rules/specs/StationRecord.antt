@@ -1,16 +1,16 @@
 -- Document 01, "The station file": which values a control, a battery, a set and a configuration may have, and which
 -- station records some file gives (25).
-use Prim.Native.Nat.{ℕ, zero, suc, _+_, _-_, _*_, _^_}
-use mathlib.Core.Bool.{Bool, true, false, _&&_}
+use Prim.Native.Nat.{ℕ, suc}
+use mathlib.Core.Bool.{Bool, true, _&&_}
 use mathlib.Core.List.{List, [], _∷_}
-use lib.ListN.{length, take, drop, getD, replicate}
+use lib.ListN.{take, drop, getD, replicate}
 use lib.Dec.{leb, ltb, eqb}
 use Rattle.rules.specs.declared.station.Control.{Control}
 use Rattle.rules.specs.declared.station.Battery.{Battery}
 use Rattle.rules.specs.declared.station.GenSet.{GenSet}
 use Rattle.rules.specs.declared.station.Station.{Station}
 use Rattle.rules.specs.Numbers.{if_then_else_, within, existingOnly, allTo, all, every, allZero}
-use Rattle.rules.specs.Answers.{Answer, accepted, refused, need, isAccepted, _>>=_, _>>_}
+use Rattle.rules.specs.Answers.{Answer, accepted, need, isAccepted, _>>_}
 
 -- what a list of sets has past its end
 unfoldable pub pastEnd : GenSet
