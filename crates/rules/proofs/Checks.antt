@@ -2,7 +2,7 @@
 use Prim.Native.Nat.{ℕ}
 use mathlib.Core.Path.{_≡_, refl}
 use mathlib.Core.Bool.{Bool, true, false}
-use Rattle.rules.specs.Answers.{Answer, accepted, refused, need, isAccepted, _>>_}
+use Rattle.rules.specs.Answers.{Answer, accepted, refused, need, isAccepted, _>>=_, _>>_}
 use native.Mathlib.Omega.{arith}
 
 -- a check that passes leaves the rest
@@ -19,6 +19,11 @@ passed false n p rest a h = absurd (let z : _≡_ {A = ℕ} 0 1 = cc in omega ar
 pub both-passed : {A : Type 0} (c : Answer (Unit {0})) (rest : Answer A) (a : A) → (c >> rest) ≡ accepted a → (c ≡ accepted tt) × (rest ≡ accepted a)
 both-passed (accepted u) rest a h = (refl, h)
 both-passed (refused n p) rest a h = absurd (let z : _≡_ {A = ℕ} 0 1 = cc in omega arith)
+
+-- where the whole is accepted, the first part gave a value, and the rest was accepted with it
+pub bound : {A B : Type 0} (c : Answer A) (f : A → Answer B) (b : B) → (c >>= f) ≡ accepted b → (a : A) × (c ≡ accepted a) × (f a ≡ accepted b)
+bound (accepted a) f b h = (a, refl, h)
+bound (refused n p) f b h = absurd (let z : _≡_ {A = ℕ} 0 1 = cc in omega arith)
 
 pub is-accepted : (c : Answer (Unit {0})) → isAccepted c ≡ true → c ≡ accepted tt
 is-accepted (accepted u) h = refl

@@ -11,7 +11,7 @@ use Rattle.rules.specs.declared.station.GenSet.{GenSet}
 use Rattle.rules.specs.declared.station.Station.{Station}
 use Rattle.rules.specs.declared.run.Run.{Run}
 use Rattle.rules.specs.declared.run.Inputs.{Inputs}
-use Rattle.rules.specs.Numbers.{if_then_else_, within, existingOnly, allTo, tab}
+use Rattle.rules.specs.Numbers.{within, existingOnly, allTo, tab}
 use Rattle.rules.specs.Bytes.{point, digits, value, parts}
 use Rattle.rules.specs.Lines.{Line, lines, cellsOf}
 use Rattle.rules.specs.Answers.{Answer, accepted, refused, need, _>>=_, _>>_}
@@ -185,7 +185,7 @@ unfolding laterRows
 later-in k sheet columns line last [] h e = tt
 later-in k sheet columns line last (l ∷ ls) h e =
     bind-in (sampleFaults k) (rowValues sheet columns line l) _ (row-in k line h (omega arith) sheet columns l)
-    λ values. bind-in (sampleFaults k) (laterRows sheet columns (suc line) (if ltb last (timeIn values) then timeIn values else last) ls) _ (later-in k sheet columns (suc line) (if ltb last (timeIn values) then timeIn values else last) ls (omega arith) (omega arith))
+    λ values. bind-in (sampleFaults k) (laterRows sheet columns (suc line) _ ls) _ (later-in k sheet columns (suc line) _ ls (omega arith) (omega arith))
     λ rows. tt
 
 rows-in : (k : ℕ) (sheet : Sheet) (columns : List ℕ) (ls : List Line) → suc (length ls) ≤ k → RefusedIn (sampleFaults k) (rowsAfter sheet columns ls)
