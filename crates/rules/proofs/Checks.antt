@@ -15,6 +15,11 @@ pub passed : {A : Type 0} (b : Bool) (n p : ℕ) (rest : Answer A) (a : A) → (
 passed true n p rest a h = (refl, h)
 passed false n p rest a h = absurd (let z : _≡_ {A = ℕ} 0 1 = cc in omega arith)
 
+-- the same of a check that is the last
+pub last-passed : (b : Bool) (n p : ℕ) → need b n p ≡ accepted tt → b ≡ true
+last-passed true n p h = refl
+last-passed false n p h = absurd (let z : _≡_ {A = ℕ} 0 1 = cc in omega arith)
+
 -- the same of a check that is made of others
 pub both-passed : {A : Type 0} (c : Answer (Unit {0})) (rest : Answer A) (a : A) → (c >> rest) ≡ accepted a → (c ≡ accepted tt) × (rest ≡ accepted a)
 both-passed (accepted u) rest a h = (refl, h)

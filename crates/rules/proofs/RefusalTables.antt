@@ -16,7 +16,7 @@ use Rattle.rules.specs.Bytes.{point, digits, value, parts}
 use Rattle.rules.specs.Lines.{Line, lines, cellsOf}
 use Rattle.rules.specs.Answers.{Answer, accepted, refused, need, _>>=_, _>>_}
 use Rattle.rules.specs.StationRecord.{controlRight, batteryRight, setRight, pairsRight, configurationRight, setsRight, configurationsRight, valuesRight, someFileGives}
-use Rattle.rules.specs.StationFile.{countAt, configsOffset, entryRight, recordOf, stationFile}
+use Rattle.rules.specs.StationFile.{countAt, configsOffset, entryRight, recordOf, contentsRight, stationFile}
 use Rattle.rules.specs.SampleFile.{Sheet, sampleSheet, nameOf, occurs, headings, headingLine, limited, timeCell, powerCell, powerForm, powerValue, cell, cellValues, valueUnder, rowValues, timeIn, laterRows, rowsAfter, sheetLines, sampleFile}
 use Rattle.rules.specs.Share.{capacity}
 use Rattle.rules.specs.RunRecord.{start, possible, mostSeconds}
@@ -25,7 +25,7 @@ use Rattle.rules.specs.Sizing.{shareAsked, rateAsked}
 use Rattle.rules.specs.Run.{secondsAsked, runOf}
 use Rattle.rules.specs.RefusalTables.{Fault, fault, listed, RefusedIn, stationFaults, sampleFaults, secondsFaults, runFaults, sizingFaults, startFaults, secondFaults}
 use Rattle.rules.proofs.Tests.{never, within-fact, fact-within}
-use Rattle.rules.proofs.StationRead.{entry-count}
+use Rattle.rules.proofs.StationRead.{Contents, contents}
 
 -- ---- one check after another
 
@@ -43,6 +43,11 @@ last-check t false n p h = h
 then-in : {A B : Type 0} (t : List Fault) (a : Answer A) (b : Answer B) → RefusedIn t a → RefusedIn t b → RefusedIn t (a >> b)
 then-in t (accepted a) b h k = k
 then-in t (refused n p) b h k = h
+
+-- the same, the rest where they passed
+after-in : {B : Type 0} (t : List Fault) (a : Answer (Unit {0})) (b : Answer B) → RefusedIn t a → (a ≡ accepted tt → RefusedIn t b) → RefusedIn t (a >> b)
+after-in t (accepted a) b h k = k refl
+after-in t (refused n p) b h k = h
 
 bind-in : {A B : Type 0} (t : List Fault) (a : Answer A) (f : A → Answer B) → RefusedIn t a → ((x : A) → RefusedIn t (f x)) → RefusedIn t (a >>= f)
 bind-in t (accepted a) f h k = k a
@@ -113,21 +118,26 @@ values-in st h k =
     λ e. checked stationFaults (batteryRight (st .battery)) _ _ _ refl
     λ f. then-in stationFaults (setsRight 0 (take (st .setcount) (st .sets))) _ (sets-in 0 (take (st .setcount) (st .sets)) (omega arith)) (configurations-in (st .setcount) 0 (take (st .configcount) (st .configs)) (omega arith))
 
-record-in : (s : List ℕ) → entryRight s 2 3 1 8 100 ≡ true → entryRight s 3 4 1 64 (configsOffset (countAt s 2)) ≡ true → RefusedIn stationFaults (valuesRight (recordOf s))
-unfolding recordOf
-record-in s h k =
-    values-in (recordOf s) (within-fact 1 8 (countAt s 2) (entry-count s 2 3 1 8 100 h) .1) (within-fact 1 64 (countAt s 3) (entry-count s 3 4 1 64 (configsOffset (countAt s 2)) k) .1)
-
-pub station-refusals : (s : List ℕ) → RefusedIn stationFaults (stationFile s)
-unfolding stationFile listed
-station-refusals s =
+contents-in : (s : List ℕ) → RefusedIn stationFaults (contentsRight s)
+unfolding contentsRight listed
+contents-in s =
     checked stationFaults (within 165 676 (length s)) _ _ _ refl
     λ a. checked stationFaults (entryRight s 0 1 1 1 32) _ _ _ refl
     λ b. checked stationFaults (entryRight s 1 2 1 1 68) _ _ _ refl
     λ c. checked stationFaults (entryRight s 2 3 1 8 100) _ _ _ refl
     λ d. checked stationFaults (entryRight s 3 4 1 64 (configsOffset (countAt s 2))) _ _ _ refl
-    λ e. checked stationFaults (eqb (length s) (configsOffset (countAt s 2) + countAt s 3)) _ _ _ refl
-    λ f. then-in stationFaults (valuesRight (recordOf s)) _ (record-in s d e) tt
+    λ e. last-check stationFaults (eqb (length s) (configsOffset (countAt s 2) + countAt s 3)) _ _ refl
+
+record-in : (s : List ℕ) → Contents s → RefusedIn stationFaults (valuesRight (recordOf s))
+unfolding recordOf
+record-in s c =
+    values-in (recordOf s) (within-fact 1 8 (countAt s 2) (c .sets-in-range) .1) (within-fact 1 64 (countAt s 3) (c .configs-in-range) .1)
+
+pub station-refusals : (s : List ℕ) → RefusedIn stationFaults (stationFile s)
+unfolding stationFile
+station-refusals s =
+    after-in stationFaults (contentsRight s) _ (contents-in s)
+    λ h. then-in stationFaults (valuesRight (recordOf s)) _ (record-in s (contents s h)) tt
 
 -- ---- the sample file
 

@@ -7,23 +7,24 @@ use native.Mathlib.Omega.{arith}
 use lib.Dec.{eqb}
 use lib.ListN.{length, drop, replicate, length-append, length-replicate}
 use lib.Seq.{drop-at}
+use borrow.Author.Tests.{eqb-true}
 use Rattle.rules.specs.declared.station.GenSet.{GenSet}
 use Rattle.rules.specs.declared.station.Station.{Station}
 use Rattle.rules.specs.Numbers.{within, every, allZero}
 use Rattle.rules.specs.Bytes.{littles}
-use Rattle.rules.specs.Answers.{accepted, isAccepted}
+use Rattle.rules.specs.Answers.{accepted, isAccepted, _>>_}
 use Rattle.rules.specs.StationRecord.{noSet, valuesRight, setUnused, someFileGives}
-use Rattle.rules.specs.StationFile.{kindAt, countAt, offsetAt, configsOffset, entryRight, setsOf, recordOf, stationFile}
+use Rattle.rules.specs.StationFile.{kindAt, countAt, offsetAt, configsOffset, entryRight, setsOf, recordOf, contentsRight, stationFile}
 use Rattle.rules.proofs.Tests.{both, and-true, within-fact}
-use Rattle.rules.proofs.Checks.{passed, both-passed, same-value}
+use Rattle.rules.proofs.Checks.{passed, last-passed, both-passed, same-value}
 use Rattle.rules.proofs.Shapes.{ShapedSets, Shaped}
 
-length-littles : (width n : ℕ) (s : List ℕ) → length (littles width n s) ≡ n
+pub length-littles : (width n : ℕ) (s : List ℕ) → length (littles width n s) ≡ n
 unfolding littles
 length-littles width zero s = refl
 length-littles width (suc n) s = ap suc (length-littles width n (drop width s))
 
-length-setsOf : (n : ℕ) (s : List ℕ) → length (setsOf n s) ≡ n
+pub length-setsOf : (n : ℕ) (s : List ℕ) → length (setsOf n s) ≡ n
 unfolding setsOf
 length-setsOf zero s = refl
 length-setsOf (suc n) s = ap suc (length-setsOf n (drop 64 s))
@@ -50,6 +51,26 @@ unfolding entryRight
 entry-count s i kind least most offset h =
     both (eqb (kindAt s i) kind) (within least most (countAt s i)) (both (eqb (kindAt s i) kind && within least most (countAt s i)) (eqb (offsetAt s i) offset) h .0) .1
 
+-- what a table of contents in order says
+pub record Contents (s : List ℕ) : Type 0 where
+  pub sets-in-range : within 1 8 (countAt s 2) ≡ true
+  pub configs-in-range : within 1 64 (countAt s 3) ≡ true
+  pub size : length s ≡ configsOffset (countAt s 2) + countAt s 3
+
+pub contents : (s : List ℕ) → contentsRight s ≡ accepted tt → Contents s
+unfolding contentsRight
+contents s h =
+    let a = passed (within 165 676 (length s)) 1 0 _ tt h in
+    let b = passed (entryRight s 0 1 1 1 32) 2 1 _ tt (a .1) in
+    let c = passed (entryRight s 1 2 1 1 68) 2 2 _ tt (b .1) in
+    let d = passed (entryRight s 2 3 1 8 100) 2 3 _ tt (c .1) in
+    let e = passed (entryRight s 3 4 1 64 (configsOffset (countAt s 2))) 2 4 _ tt (d .1) in
+    record {
+      sets-in-range = entry-count s 2 3 1 8 100 (d .0);
+      configs-in-range = entry-count s 3 4 1 64 (configsOffset (countAt s 2)) (e .0);
+      size = eqb-true (length s) (configsOffset (countAt s 2) + countAt s 3) (last-passed (eqb (length s) (configsOffset (countAt s 2) + countAt s 3)) 3 0 (e .1));
+    }
+
 -- what an accepted reading has checked
 record Read (s : List ℕ) (st : Station) : Type 0 where
   sets-in-range : within 1 8 (countAt s 2) ≡ true
@@ -60,18 +81,14 @@ record Read (s : List ℕ) (st : Station) : Type 0 where
 read : (s : List ℕ) (st : Station) → stationFile s ≡ accepted st → Read s st
 unfolding stationFile
 read s st h =
-    let a = passed (within 165 676 (length s)) 1 0 _ st h in
-    let b = passed (entryRight s 0 1 1 1 32) 2 1 _ st (a .1) in
-    let c = passed (entryRight s 1 2 1 1 68) 2 2 _ st (b .1) in
-    let d = passed (entryRight s 2 3 1 8 100) 2 3 _ st (c .1) in
-    let e = passed (entryRight s 3 4 1 64 (configsOffset (countAt s 2))) 2 4 _ st (d .1) in
-    let f = passed (eqb (length s) (configsOffset (countAt s 2) + countAt s 3)) 3 0 _ st (e .1) in
-    let g = both-passed (valuesRight (recordOf s)) (accepted (recordOf s)) st (f .1) in
+    let a = both-passed (contentsRight s) (valuesRight (recordOf s) >> accepted (recordOf s)) st h in
+    let b = both-passed (valuesRight (recordOf s)) (accepted (recordOf s)) st (a .1) in
+    let c = contents s (a .0) in
     record {
-      sets-in-range = entry-count s 2 3 1 8 100 (d .0);
-      configs-in-range = entry-count s 3 4 1 64 (configsOffset (countAt s 2)) (e .0);
-      values = g .0;
-      the-record = same-value (recordOf s) st (g .1);
+      sets-in-range = c .sets-in-range;
+      configs-in-range = c .configs-in-range;
+      values = b .0;
+      the-record = same-value (recordOf s) st (b .1);
     }
 
 -- of the record itself

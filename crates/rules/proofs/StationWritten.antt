@@ -15,7 +15,7 @@ use Rattle.rules.specs.Numbers.{within, existingOnly, every, allZero}
 use Rattle.rules.specs.Bytes.{little, littles, bytesOf, bytesOfAll}
 use Rattle.rules.specs.Answers.{Answer, accepted, need, _>>=_, _>>_}
 use Rattle.rules.specs.StationRecord.{noSet, setRight, pairsRight, configurationRight, setsRight, configurationsRight, valuesRight, setUnused, someFileGives}
-use Rattle.rules.specs.StationFile.{kindAt, countAt, offsetAt, setsKind, setSize, controlOffset, batteryOffset, setsOffset, configsOffset, entryRight, controlOf, batteryOf, setOf, setsOf, recordOf, stationFile, controlNumbers, setNumbers, setsBytes, contentsBytes, batteryBytes, fileOf}
+use Rattle.rules.specs.StationFile.{kindAt, countAt, offsetAt, setsKind, setSize, controlOffset, batteryOffset, setsOffset, configsOffset, entryRight, controlOf, batteryOf, setOf, setsOf, recordOf, contentsRight, stationFile, controlNumbers, setNumbers, setsBytes, contentsBytes, batteryBytes, fileOf}
 use Rattle.rules.proofs.Tests.{both, and-true, all-at, fact-within}
 use Rattle.rules.proofs.Checks.{passes, passed}
 use Rattle.rules.proofs.LittleEndian.{AllBelow, length-all, reads-back, read-back-all}
@@ -329,10 +329,9 @@ module _ (st : Station) (shaped : Shaped st) (h : someFileGives st ≡ true) whe
         configs = ms i;
       }
 
-  -- the file of a record is read back as that record
-  pub read-back : stationFile (fileOf st) ≡ accepted st
-  unfolding stationFile
-  read-back =
+  contents-back : contentsRight (fileOf st) ≡ accepted tt
+  unfolding contentsRight
+  contents-back =
       let s : List ℕ = fileOf st in
       let rest : List ℕ = control ++ afterControl in
       let size : within 165 676 (length s) ≡ true = fact-within 165 676 (length s) (omega (arith, file-size, n-range, m-range)) (omega (arith, file-size, n-range, m-range)) in
@@ -348,6 +347,12 @@ module _ (st : Station) (shaped : Shaped st) (h : someFileGives st ≡ true) whe
       ∙ (passes (entryRight s 1 2 1 1 68) 2 2 _ e1
       ∙ (passes (entryRight s 2 3 1 8 100) 2 3 _ e2
       ∙ (passes (entryRight s 3 4 1 64 (configsOffset (countAt s 2))) 2 4 _ e3
-      ∙ (passes (eqb (length s) (configsOffset (countAt s 2) + countAt s 3)) 3 0 _ whole
+      ∙ ap (λ (b : Bool). need b 3 0) whole))))
+
+  -- the file of a record is read back as that record
+  pub read-back : stationFile (fileOf st) ≡ accepted st
+  unfolding stationFile
+  read-back =
+      ap (λ (c : Answer (Unit {0})). c >> (valuesRight (recordOf (fileOf st)) >> accepted (recordOf (fileOf st)))) contents-back
       ∙ (ap (λ (r : Station). valuesRight r >> accepted r) record-back
-      ∙ ap (λ (c : Answer (Unit {0})). c >> accepted st) (right .values)))))))
+      ∙ ap (λ (c : Answer (Unit {0})). c >> accepted st) (right .values))

@@ -34,6 +34,16 @@ abbrev pub isAccepted : {A : Type 0} → Answer A → Bool
 isAccepted (accepted a) = true
 isAccepted (refused number place) = false
 
+-- an answer without its value: whether it is accepted, or the refusal
+abbrev pub judged : {A : Type 0} → Answer A → Answer (Unit {0})
+judged (accepted a) = accepted tt
+judged (refused number place) = refused number place
+
+-- the value of an answer, and the one named for a refusal
+abbrev pub valueOr : {A : Type 0} → A → Answer A → A
+valueOr z (accepted a) = a
+valueOr z (refused number place) = z
+
 -- the number and the place of a refusal, in this order, and none where there is no refusal
 abbrev pub refusal : {A : Type 0} → Answer A → List ℕ
 refusal (accepted a) = []

@@ -6,7 +6,7 @@ use lib.Count.{ones}
 use lib.Dec.{leb, ltb, eqb}
 use Rattle.rules.specs.declared.station.Station.{Station}
 use Rattle.rules.specs.Numbers.{if_then_else_, has, existingOnly, sumTo}
-use Rattle.rules.specs.Answers.{Answer, accepted, need, _>>=_, _>>_}
+use Rattle.rules.specs.Answers.{Answer, accepted, judged, need, _>>=_, _>>_}
 use Rattle.rules.specs.StationRecord.{setAt}
 use Rattle.rules.specs.StationFile.{stationFile}
 use Rattle.rules.specs.Share.{capacity, share}
@@ -16,10 +16,10 @@ use Rattle.rules.specs.SampleFile.{sampleFile}
 -- ---- "file checks": a file is good, or its refusal
 
 unfoldable pub stationCheck : List ℕ → Answer (Unit {0})
-stationCheck s = stationFile s >>= λ st. accepted tt
+stationCheck s = judged (stationFile s)
 
 unfoldable pub sampleCheck : List ℕ → Answer (Unit {0})
-sampleCheck s = sampleFile s >>= λ rows. accepted tt
+sampleCheck s = judged (sampleFile s)
 
 -- ---- "Share takes station bytes, a mask, a power and a set's number, and answers that set's watts"
 

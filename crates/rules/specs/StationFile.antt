@@ -105,14 +105,19 @@ recordOf s =
 
 -- ---- "Station order: 1, 2, 3, 4, 5, then set by set 6 before 7, then 8."
 
-unfoldable pub stationFile : List ℕ → Answer Station
-stationFile s = do
+-- 1, 2, 3: the size and the table of contents
+unfoldable pub contentsRight : List ℕ → Answer (Unit {0})
+contentsRight s = do
   need (within 165 676 (length s)) 1 0
   need (entryRight s 0 1 1 1 controlOffset) 2 1
   need (entryRight s 1 2 1 1 batteryOffset) 2 2
   need (entryRight s 2 setsKind 1 8 setsOffset) 2 3
   need (entryRight s 3 4 1 64 (configsOffset (countAt s 2))) 2 4
   need (eqb (length s) (configsOffset (countAt s 2) + countAt s 3)) 3 0
+
+unfoldable pub stationFile : List ℕ → Answer Station
+stationFile s = do
+  contentsRight s
   valuesRight (recordOf s)
   accepted (recordOf s)
 

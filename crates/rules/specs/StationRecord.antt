@@ -34,6 +34,29 @@ noSet =
       rates = replicate 5 0;
     }
 
+-- what a refused reading hands back: the record of zeros, which no file gives
+unfoldable pub noStation : Station
+noStation =
+    record {
+      control =
+          record {
+            spinning = 0;
+            coverage = 0;
+            minload = 0;
+            shed = 0;
+            delay = 0;
+            k = 0;
+            minseconds = 0;
+            maintain = 0;
+            online = 0;
+          };
+      battery = record { power = 0; efficiency = 0; least = 0; most = 0; start = 0 };
+      setcount = 0;
+      configcount = 0;
+      sets = replicate 8 noSet;
+      configs = replicate 64 0;
+    }
+
 -- ---- the values
 
 -- 4: "Control, nine 4-byte numbers"
