@@ -1,11 +1,12 @@
 -- Laws of tests: from a test that passed to the fact, and back. Assumes nothing.
-use Prim.Native.Nat.{ℕ, zero, suc, _≤_, _<_}
+use Prim.Native.Nat.{ℕ, zero, suc, _+_, _≤_, _<_}
 use mathlib.Core.Path.{_≡_, refl}
 use mathlib.Core.Bool.{Bool, true, false, _&&_}
 use mathlib.Core.List.{List, [], _∷_, _++_}
 use native.Mathlib.Omega.{arith}
 use native.Mathlib.Decide.{decLt}
 use native.Mathlib.Nat.{not-suc-le-zero}
+use native.Mathlib.Numerals.{add-one}
 use lib.Dec.{leb}
 use lib.ListN.{getD}
 use borrow.Author.Tests.{leb-true, le-leb}
@@ -47,6 +48,11 @@ pub to-all : (p : ℕ → Bool) (n : ℕ) → ((i : ℕ) → i < n → p i ≡ t
 unfolding allTo
 to-all p zero h = refl
 to-all p (suc n) h = and-true (to-all p n (λ i l. h i (omega arith))) (h n (omega arith))
+
+-- one place more, as a loop tests it
+pub all-turn : (p : ℕ → Bool) (i : ℕ) (ok b : Bool) → ok ≡ allTo i p → b ≡ p i → ok && b ≡ allTo (i + 1) p
+unfolding allTo
+all-turn p i ok b e q = rw (add-one i, e, q)
 
 pub every-append : {A : Type 0} (p : A → Bool) (xs ys : List A) → every p xs ≡ true → every p ys ≡ true → every p (xs ++ ys) ≡ true
 unfolding every

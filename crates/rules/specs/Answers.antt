@@ -44,6 +44,16 @@ abbrev pub valueOr : {A : Type 0} → A → Answer A → A
 valueOr z (accepted a) = a
 valueOr z (refused number place) = z
 
+-- the number of a refusal, and 0 where there is none
+abbrev pub number : {A : Type 0} → Answer A → ℕ
+number (accepted a) = 0
+number (refused n p) = n
+
+-- the place of a refusal, and 0 where there is none
+abbrev pub place : {A : Type 0} → Answer A → ℕ
+place (accepted a) = 0
+place (refused n p) = p
+
 -- the number and the place of a refusal, in this order, and none where there is no refusal
 abbrev pub refusal : {A : Type 0} → Answer A → List ℕ
 refusal (accepted a) = []
@@ -53,31 +63,34 @@ refusal (refused number place) = number ∷ place ∷ []
 
 -- "Answer: the number and its place from 1: the first wrong contents entry for 2, the set for 6 and 7, the configuration
 -- for 8, the line for 11 to 21; 0 for the rest"
+abbrev pub numberAndPlace : Refusal → ℕ × ℕ
+numberAndPlace StationSize = (1, 0)
+numberAndPlace (ContentsEntry entry) = (2, entry)
+numberAndPlace ContentsSize = (3, 0)
+numberAndPlace ControlValue = (4, 0)
+numberAndPlace BatteryValue = (5, 0)
+numberAndPlace (SetNumber set) = (6, set)
+numberAndPlace (SetPairs set) = (7, set)
+numberAndPlace (ConfigurationMask configuration) = (8, configuration)
+numberAndPlace (LineLength line) = (11, line)
+numberAndPlace (HeadingBlank line) = (12, line)
+numberAndPlace (HeadingUnknown line) = (13, line)
+numberAndPlace (HeadingTwice line) = (14, line)
+numberAndPlace (HeadingMissing line) = (15, line)
+numberAndPlace (FirstHeading line) = (16, line)
+numberAndPlace (CellCount line) = (17, line)
+numberAndPlace (Malformed line) = (18, line)
+numberAndPlace (OverLimit line) = (19, line)
+numberAndPlace (SheddableAboveLoad line) = (20, line)
+numberAndPlace (FirstTime line) = (21, line)
+numberAndPlace NoRow = (22, 0)
+numberAndPlace RunEnded = (23, 0)
+numberAndPlace RunRecord = (24, 0)
+numberAndPlace StationRecord = (25, 0)
+numberAndPlace RowBuffer = (26, 0)
+
 abbrev pub refusalOf : {A : Type 0} → Refusal → Answer A
-refusalOf StationSize = refused 1 0
-refusalOf (ContentsEntry entry) = refused 2 entry
-refusalOf ContentsSize = refused 3 0
-refusalOf ControlValue = refused 4 0
-refusalOf BatteryValue = refused 5 0
-refusalOf (SetNumber set) = refused 6 set
-refusalOf (SetPairs set) = refused 7 set
-refusalOf (ConfigurationMask configuration) = refused 8 configuration
-refusalOf (LineLength line) = refused 11 line
-refusalOf (HeadingBlank line) = refused 12 line
-refusalOf (HeadingUnknown line) = refused 13 line
-refusalOf (HeadingTwice line) = refused 14 line
-refusalOf (HeadingMissing line) = refused 15 line
-refusalOf (FirstHeading line) = refused 16 line
-refusalOf (CellCount line) = refused 17 line
-refusalOf (Malformed line) = refused 18 line
-refusalOf (OverLimit line) = refused 19 line
-refusalOf (SheddableAboveLoad line) = refused 20 line
-refusalOf (FirstTime line) = refused 21 line
-refusalOf NoRow = refused 22 0
-refusalOf RunEnded = refused 23 0
-refusalOf RunRecord = refused 24 0
-refusalOf StationRecord = refused 25 0
-refusalOf RowBuffer = refused 26 0
+refusalOf r = refused (numberAndPlace r .0) (numberAndPlace r .1)
 
 abbrev pub verdictOf : Verdict → Answer (Unit {0})
 verdictOf Verdict.Accepted = accepted tt

@@ -1,0 +1,111 @@
+-- `station::values::sets_right` meets its contract. Assumes nothing.
+use borrow.Author.Needs.{needs}
+use Prim.Native.Nat.{ℕ, _-_, _≤_}
+use mathlib.Core.Path.{_≡_, refl, sym, _∙_}
+use native.Mathlib.Omega.{arith}
+use lib.ListN.{length, take, drop}
+use borrow.Author.Tests.{not-true, not-false}
+use Rattle.rules.specs.StationRecord.{pastEnd, setAt, setsRight}
+use Rattle.station.proofs.Orders.{set-number, set-pairs, set-in-order, sets-in-order}
+use Rattle.station.proofs.values.sets_right.Statement.{statement}
+use Rattle.station.proofs.values.sets_right.Tie as tie
+use Rattle.station.proofs.values.sets_right.Reads as reads
+use Rattle.station.proofs.values.sets_right.Lts as lts
+use Rattle.station.proofs.values.pairs_right.Reads as pairs-right-reads
+use Rattle.station.proofs.values.set_right.Reads as set-right-reads
+
+abbrev Inv-loop : tie.InvT-loop
+Inv-loop setcount sets i₀ i = (setcount ≤ 8) × (setcount ≤ length sets) × (setsRight 0 (take setcount sets) ≡ setsRight i (drop i (take setcount sets)))
+
+abbrev μ-loop : tie.MeasureT-loop
+μ-loop setcount sets i₀ i = setcount - i
+
+-- src/values.rt:122:5
+loop-holds : tie.Need-loop-holds Inv-loop μ-loop
+loop-holds c = let l : length (c .args .t1) ≡ 8 = search needs in (c .pre, omega (arith, l, c .pre), refl)
+
+-- src/values.rt:123:17
+mul-g : tie.Need-mul-g Inv-loop μ-loop
+mul-g c = search needs
+
+-- src/values.rt:123:17
+array-copy-out-g : tie.Need-array-copy-out-g Inv-loop μ-loop
+array-copy-out-g c = search needs
+
+-- src/values.rt:124:9
+add-i : tie.Need-add-i Inv-loop μ-loop
+add-i c = search needs
+
+-- src/values.rt:125:13
+set-right-requires : tie.Need-set-right-requires Inv-loop μ-loop
+set-right-requires c κs = search needs
+
+-- src/values.rt:126:56
+cast-t12 : tie.Need-cast-t12 Inv-loop μ-loop
+cast-t12 c = search needs
+
+-- src/values.rt:126:13
+returns : tie.Need-returns Inv-loop μ-loop
+unfolding setAt pastEnd
+returns c = 
+    let at = c .before .before .before .before in
+    let a = at .before .args in
+    set-number (a .t1) (a .setcount) _ (at .loop .i) (at .loop .inv .1) (at .loop .inv .2) (search needs) (sym (c .before .set-right .ensures) ∙ not-true _ (c .if1 .taken))
+
+-- src/values.rt:128:13
+pairs-right-requires : tie.Need-pairs-right-requires Inv-loop μ-loop
+pairs-right-requires c κs = search needs
+
+-- src/values.rt:129:55
+cast-t14 : tie.Need-cast-t14 Inv-loop μ-loop
+cast-t14 c = search needs
+
+-- src/values.rt:129:13
+returns-2 : tie.Need-returns-2 Inv-loop μ-loop
+unfolding setAt pastEnd
+returns-2 c = 
+    let set = c .before .before in
+    let at = set .before .before .before .before in
+    let a = at .before .args in
+    set-pairs (a .t1) (a .setcount) _ (at .loop .i) (at .loop .inv .1) (at .loop .inv .2) (search needs) (sym (set .before .set-right .ensures) ∙ not-false _ (set .if1 .left)) (sym (c .before .pairs-right .ensures) ∙ not-true _ (c .if2 .taken))
+
+-- src/values.rt:122:5
+loop-less : tie.Need-loop-less Inv-loop μ-loop
+loop-less c = search needs
+
+-- src/values.rt:122:5
+loop-again : tie.Need-loop-again Inv-loop μ-loop
+unfolding setAt pastEnd
+loop-again c = 
+    let set = c .before .before in
+    let at = set .before .before .before .before in
+    let a = at .before .args in
+    let fits = at .loop .inv .1 in
+    (at .loop .inv .0, fits, set-in-order (a .t1) (a .setcount) _ (at .loop .i) fits (at .loop .inv .2) (search needs) (sym (set .before .set-right .ensures) ∙ not-false _ (set .if1 .left)) (sym (c .before .pairs-right .ensures) ∙ not-false _ (c .if2 .left)))
+
+-- src/values.rt:117:1
+returns-3 : tie.Need-returns-3 Inv-loop μ-loop
+returns-3 c = 
+    let at = c .before in
+    let a = at .before .args in
+    sets-in-order (a .t1) (a .setcount) _ (at .loop .i) (at .loop .inv .1) (at .loop .inv .2) (search needs)
+
+pub sets-right-spec : {M : Type 1} → statement M
+sets-right-spec =
+    tie.close
+    (tie.spec
+    Inv-loop
+    μ-loop
+    loop-holds
+    mul-g
+    array-copy-out-g
+    add-i
+    set-right-requires
+    cast-t12
+    returns
+    pairs-right-requires
+    cast-t14
+    returns-2
+    loop-less
+    loop-again
+    returns-3)

@@ -1,0 +1,2 @@
+// A station: its file, its record, and the numbers that its sets give.
+pub mod values;

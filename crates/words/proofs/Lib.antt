@@ -1,0 +1,3 @@
+-- Laws of the words that code and definitions share.
+pub mod LittleLaws
+pub mod MaskTests

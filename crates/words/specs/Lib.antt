@@ -1,0 +1,1 @@
+-- The walk over a mask; everything else is equated with the rules' own definitions.
