@@ -28,7 +28,7 @@ abs-difference a b m h k = choice (ltb a b) (negsuc (b - suc a)) (pos (a - b)) (
     above : a - b ≤ m
     above = omega arith
 
-abs-minus : (a b m : ℕ) → a ≤ m → b ≤ m → natAbs (pos a -ℤ pos b) ≤ m
+pub abs-minus : (a b m : ℕ) → a ≤ m → b ≤ m → natAbs (pos a -ℤ pos b) ≤ m
 abs-minus a zero m h k = omega arith
 abs-minus a (suc b) m h k = abs-difference a (suc b) m h k
 
@@ -36,13 +36,13 @@ abs-negated : (n : ℕ) → natAbs (negℤ (pos n)) ≡ n
 abs-negated zero = refl
 abs-negated (suc n) = refl
 
-abs-times : (y z : ℤ) → natAbs (y *ℤ z) ≡ natAbs y * natAbs z
+pub abs-times : (y z : ℤ) → natAbs (y *ℤ z) ≡ natAbs y * natAbs z
 abs-times (pos a) (pos b) = refl
 abs-times (pos a) (negsuc b) = abs-negated (a * suc b)
 abs-times (negsuc a) (pos b) = abs-negated (suc a * b)
 abs-times (negsuc a) (negsuc b) = refl
 
-abs-plus : (y z : ℤ) → natAbs (y +ℤ z) ≤ natAbs y + natAbs z
+pub abs-plus : (y z : ℤ) → natAbs (y +ℤ z) ≤ natAbs y + natAbs z
 abs-plus (pos a) (pos b) = le-refl (a + b)
 abs-plus (pos a) (negsuc b) = abs-difference a (suc b) (a + suc b) (omega arith) (omega arith)
 abs-plus (negsuc a) (pos b) = abs-difference b (suc a) (suc a + b) (omega arith) (omega arith)

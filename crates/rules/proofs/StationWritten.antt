@@ -14,7 +14,7 @@ use Rattle.rules.specs.declared.station.Station.{Station}
 use Rattle.rules.specs.Numbers.{within, existingOnly, every, allZero}
 use Rattle.rules.specs.Bytes.{little, littles, bytesOf, bytesOfAll}
 use Rattle.rules.specs.Answers.{Answer, accepted, need, _>>=_, _>>_}
-use Rattle.rules.specs.StationRecord.{noSet, setRight, pairsRight, configurationRight, setsRight, configurationsRight, valuesRight, setUnused, someFileGives}
+use Rattle.rules.specs.StationRecord.{noSet, setRight, pairsRight, configurationRight, setsRight, configurationsRight, valuesRight, setUnused, unusedRules, someFileGives}
 use Rattle.rules.specs.StationFile.{kindAt, countAt, offsetAt, setsKind, setSize, controlOffset, batteryOffset, setsOffset, configsOffset, entryRight, controlOf, batteryOf, setOf, setsOf, recordOf, contentsRight, stationFile, controlNumbers, setNumbers, setsBytes, contentsBytes, batteryBytes, fileOf}
 use Rattle.rules.proofs.Tests.{both, and-true, all-at, fact-within}
 use Rattle.rules.proofs.Checks.{passes, passed}
@@ -102,18 +102,15 @@ zero-list (x ∷ xs) h =
 unused-set : (g : GenSet) → length (g .loads) ≡ 5 → length (g .rates) ≡ 5 → setUnused g ≡ true → g ≡ noSet
 unfolding noSet
 unused-set g h k u =
-    let numbers : List ℕ = g .rating ∷ g .warmup ∷ g .cooldown ∷ g .interval ∷ g .service ∷ g .points ∷ [] in
-    let tests : List Bool = allZero numbers ∷ allZero (g .loads) ∷ allZero (g .rates) ∷ [] in
-    let e : numbers ≡ replicate 6 0 = zero-list numbers (all-at tests 0 u) in
-    let loads : g .loads ≡ replicate 5 0 = zero-list (g .loads) (all-at tests 1 u) ∙ ap (λ (n : ℕ). replicate n 0) h in
-    let rates : g .rates ≡ replicate 5 0 = zero-list (g .rates) (all-at tests 2 u) ∙ ap (λ (n : ℕ). replicate n 0) k in
+    let loads : g .loads ≡ replicate 5 0 = zero-list (g .loads) (all-at (unusedRules g) 6 u) ∙ ap (λ (n : ℕ). replicate n 0) h in
+    let rates : g .rates ≡ replicate 5 0 = zero-list (g .rates) (all-at (unusedRules g) 7 u) ∙ ap (λ (n : ℕ). replicate n 0) k in
     λ i. record {
-      rating = getD (e i) 0 0;
-      warmup = getD (e i) 1 0;
-      cooldown = getD (e i) 2 0;
-      interval = getD (e i) 3 0;
-      service = getD (e i) 4 0;
-      points = getD (e i) 5 0;
+      rating = eqb-true (g .rating) 0 (all-at (unusedRules g) 0 u) i;
+      warmup = eqb-true (g .warmup) 0 (all-at (unusedRules g) 1 u) i;
+      cooldown = eqb-true (g .cooldown) 0 (all-at (unusedRules g) 2 u) i;
+      interval = eqb-true (g .interval) 0 (all-at (unusedRules g) 3 u) i;
+      service = eqb-true (g .service) 0 (all-at (unusedRules g) 4 u) i;
+      points = eqb-true (g .points) 0 (all-at (unusedRules g) 5 u) i;
       loads = loads i;
       rates = rates i;
     }

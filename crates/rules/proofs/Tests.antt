@@ -1,6 +1,6 @@
 -- Laws of tests: from a test that passed to the fact, and back. Assumes nothing.
 use Prim.Native.Nat.{ℕ, zero, suc, _+_, _≤_, _<_}
-use mathlib.Core.Path.{_≡_, refl}
+use mathlib.Core.Path.{_≡_, refl, sym, ap, _∙_}
 use mathlib.Core.Bool.{Bool, true, false, _&&_}
 use mathlib.Core.List.{List, [], _∷_, _++_}
 use native.Mathlib.Omega.{arith}
@@ -8,7 +8,8 @@ use native.Mathlib.Decide.{decLt}
 use native.Mathlib.Nat.{not-suc-le-zero}
 use native.Mathlib.Numerals.{add-one}
 use lib.Dec.{leb}
-use lib.ListN.{getD}
+use lib.ListN.{length, getD, drop, drop-of-length-le}
+use lib.Seq.{drop-cons}
 use borrow.Author.Tests.{leb-true, le-leb}
 use Rattle.rules.specs.Numbers.{if_then_else_, within, allTo, allFrom, all, every}
 
@@ -58,6 +59,25 @@ pub every-append : {A : Type 0} (p : A → Bool) (xs ys : List A) → every p xs
 unfolding every
 every-append p [] ys h k = k
 every-append p (x ∷ xs) ys h k = let t = both (p x) (every p xs) h in and-true (t .0) (every-append p xs ys (t .1) k)
+
+-- ---- every element of a list from a place on, as a loop tests them one by one
+
+module _ {A : Type 0} (p : A → Bool) (l : List A) (i : ℕ) (whole ok : Bool) (from : whole ≡ ok && every p (drop i l)) where
+  pub every-turn : (d : A) (b : Bool) → i < length l → b ≡ p (getD l i d) → whole ≡ ok && b && every p (drop (i + 1) l)
+  unfolding every
+  every-turn d b h e = rw (add-one i, e) (from ∙ ap (λ (x : List A). ok && every p x) (drop-cons l i d h) ∙ go ok)
+    where
+      go : (o : Bool) → o && (p (getD l i d) && every p (drop (suc i) l)) ≡ o && p (getD l i d) && every p (drop (suc i) l)
+      go true = refl
+      go false = refl
+
+  pub every-end : length l ≤ i → ok ≡ whole
+  unfolding every
+  every-end h = sym (from ∙ ap (λ (x : List A). ok && every p x) (drop-of-length-le l h) ∙ go ok)
+    where
+      go : (o : Bool) → o && true ≡ o
+      go true = refl
+      go false = refl
 
 -- a number within its range
 pub within-fact : (least most n : ℕ) → within least most n ≡ true → (least ≤ n) × (n ≤ most)

@@ -152,13 +152,20 @@ valuesRight st = do
 
 -- ---- 25
 
-abbrev pub setUnused : GenSet → Bool
-setUnused g =
-    all
-    (allZero (g .rating ∷ g .warmup ∷ g .cooldown ∷ g .interval ∷ g .service ∷ g .points ∷ [])
+abbrev pub unusedRules : GenSet → List Bool
+unusedRules g =
+    eqb (g .rating) 0
+    ∷ eqb (g .warmup) 0
+    ∷ eqb (g .cooldown) 0
+    ∷ eqb (g .interval) 0
+    ∷ eqb (g .service) 0
+    ∷ eqb (g .points) 0
     ∷ allZero (g .loads)
     ∷ allZero (g .rates)
-    ∷ [])
+    ∷ []
+
+abbrev pub setUnused : GenSet → Bool
+setUnused g = all (unusedRules g)
 
 -- some file gives the record: its counts and values are in rule, and what is past the counts is zero
 -- (proofs/StationFile.antt shows it both ways, by a file that the reader takes back)

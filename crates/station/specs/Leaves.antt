@@ -1,7 +1,8 @@
 -- What the shares of a mask and the rate of a set are for any record, also one that no file gives.
 -- Document 01 gives both for a station of some file. Here 25 answers for numbers that no file gives, where they would lead
 -- the arithmetic astray, and 19 for a power above what the rule is for.
-use Prim.Native.Nat.{ℕ, suc, _*_}
+use Prim.Native.Nat.{ℕ, suc, _*_, _≤_, _<_}
+use mathlib.Core.Path.{_≡_}
 use mathlib.Core.Bool.{Bool, _&&_}
 use mathlib.Core.List.{List, [], _∷_}
 use lib.Dec.{leb, ltb}
@@ -19,6 +20,13 @@ sharesAsked sets mask diesel = do
   need (leb (capacity sets mask) 80_000_000) 25 0
   need (leb diesel (capacity sets mask)) 19 0
   accepted (tab 8 (share sets mask diesel))
+
+-- some power that is accepted, beside the capacity
+pub record Shareable (sets : List GenSet) (mask diesel cap : ℕ) : Type 0 where
+  pub is-capacity : cap ≡ capacity sets mask
+  pub small : cap ≤ 80_000_000
+  pub allowed : diesel ≤ cap
+  pub some : 0 < diesel
 
 -- ---- step 8: the rate of one set
 

@@ -1,1 +1,2 @@
--- The walk over a mask; everything else is equated with the rules' own definitions.
+-- What the rules have no word for: the walk over a mask.
+pub mod Masks

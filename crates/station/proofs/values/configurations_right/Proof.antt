@@ -41,7 +41,7 @@ cast-t12 c = search needs
 
 -- src/values.rt:151:13
 returns : tie.Need-returns Inv-loop μ-loop
-returns c = 
+returns c =
     let at = c .before .before .before in
     let a = at .before .args in
     configuration-mask (a .setcount) (a .t1) (a .configcount) _ (at .loop .i) (at .loop .inv .0) (at .loop .inv .1) (search needs) (sym (c .before .configuration-right .ensures) ∙ not-true _ (c .if1 .taken))
@@ -52,14 +52,14 @@ loop-less c = search needs
 
 -- src/values.rt:147:5
 loop-again : tie.Need-loop-again Inv-loop μ-loop
-loop-again c = 
+loop-again c =
     let at = c .before .before .before in
     let a = at .before .args in
     (at .loop .inv .0, configuration-in-order (a .setcount) (a .t1) (a .configcount) _ (at .loop .i) (at .loop .inv .0) (at .loop .inv .1) (search needs) (sym (c .before .configuration-right .ensures) ∙ not-false _ (c .if1 .left)))
 
 -- src/values.rt:142:1
 returns-2 : tie.Need-returns-2 Inv-loop μ-loop
-returns-2 c = 
+returns-2 c =
     let at = c .before in
     let a = at .before .args in
     configurations-in-order (a .setcount) (a .t1) (a .configcount) _ (at .loop .i) (at .loop .inv .0) (at .loop .inv .1) (search needs)

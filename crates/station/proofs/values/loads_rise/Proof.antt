@@ -63,7 +63,7 @@ loop-less c = search needs
 
 -- src/values.rt:100:5
 loop-again : tie.Need-loop-again Inv-loop μ-loop
-loop-again c = 
+loop-again c =
     let at = c .before .before in
     let a = at .before .args in
     (omega arith, all-turn (λ j. rises (a .points) j (getD (a .t2) j 0) (getD (a .t2) (suc j) 0)) _ _ _ (at .loop .inv .1) (rw add-one at (c .rises-at .ensures)))

@@ -59,7 +59,7 @@ loop-less c = search needs
 
 -- src/values.rt:88:5
 loop-again : tie.Need-loop-again Inv-loop μ-loop
-loop-again c = 
+loop-again c =
     let at = c .before .before in
     let a = at .before .args in
     (omega arith, all-turn (λ j. pairRight (a .points) j (getD (a .t2) j 0) (getD (a .t3) j 0)) _ _ _ (at .loop .inv .1) (c .pair-right .ensures))

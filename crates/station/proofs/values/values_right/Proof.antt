@@ -18,7 +18,7 @@ control-right-requires c κs = search needs
 
 -- src/values.rt:165:9
 returns : tie.Need-returns
-returns c = 
+returns c =
     let a = c .before .before .before .args in
     control-first (a .st) (sym (c .before .control-right .ensures) ∙ not-true _ (c .if1 .taken))
 
@@ -28,7 +28,7 @@ battery-right-requires c κs = search needs
 
 -- src/values.rt:169:9
 returns-2 : tie.Need-returns-2
-returns-2 c = 
+returns-2 c =
     let first = c .before .before .before in
     let a = first .before .before .before .args in
     battery-next (a .st) (sym (first .before .control-right .ensures) ∙ not-false _ (first .if1 .left)) (sym (c .before .battery-right .ensures) ∙ not-true _ (c .if2 .taken))
@@ -46,7 +46,7 @@ enum-told-2 c = search needs
 
 -- src/values.rt:174:9
 returns-3 : tie.Need-returns-3
-returns-3 c = 
+returns-3 c =
     let sets = c .before .before in
     let second = sets .before .before in
     let first = second .before .before .before in
@@ -59,7 +59,7 @@ configurations-right-requires c κs = search needs
 
 -- src/values.rt:158:1
 returns-4 : tie.Need-returns-4
-returns-4 c = 
+returns-4 c =
     let told = c .before .before in
     let sets = told .before .before in
     let second = sets .before .before in

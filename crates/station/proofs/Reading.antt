@@ -1,0 +1,113 @@
+-- Numbers of a file: read through a part, and one after the other. Assumes nothing.
+use Prim.Native.Nat.{ℕ, zero, suc, _+_, _-_, _*_, _^_, _≤_, _<_, min}
+use mathlib.Core.Path.{_≡_, refl, sym, ap, _∙_}
+use mathlib.Core.List.{List, [], _∷_, _++_}
+use native.Mathlib.Omega.{arith}
+use native.Mathlib.Nat.{not-suc-le-zero}
+use native.Mathlib.Numerals.{add-one}
+use lib.ListN.{length, take, drop, getD, set, replicate, length-take, length-drop}
+use lib.Seq.{drop-drop, set-at, append-snoc}
+use Rattle.rules.specs.Bytes.{little, littles}
+use Rattle.rules.specs.declared.station.GenSet.{GenSet}
+use Rattle.rules.specs.StationFile.{controlOf, batteryOf, setOf, setsOf}
+use Rattle.words.proofs.LittleLaws.{little-part, little-turn}
+
+-- the number of a part that is as long as the number is wide
+pub part-number : (s : List ℕ) (at width number : ℕ) → at + width ≤ length s → width ≤ 8
+    → number ≡ little 8 (take (at + width - at) (drop at s)) → number < 256 ^ min 8 (length (take (at + width - at) (drop at s)))
+    → (number ≡ little width (drop at s)) × (number < 256 ^ width)
+part-number s at width number fits w e l =
+    let k : at + width - at ≡ width = omega arith in
+    let n : min 8 (length (take width (drop at s))) ≡ width = omega (arith, length-take width (drop at s), length-drop at s, fits, w) in
+    ((rw k at e) ∙ little-part width 8 (drop at s) w, rw (k, n) at l)
+
+-- the number at place j of numbers one after the other
+pub littles-at : (width count j : ℕ) (s : List ℕ) → j < count → getD (littles width count s) j 0 ≡ little width (drop (width * j) s)
+unfolding littles
+littles-at width zero j s h = absurd (not-suc-le-zero h)
+littles-at width (suc count) zero s h = let e : width * 0 ≡ 0 = omega arith in rw e
+littles-at width (suc count) (suc j) s h =
+    let e : width + width * j ≡ width * suc j = omega arith in
+    littles-at width count j (drop width s) (omega arith) ∙ ap (little width) (drop-drop (width * j) width s) ∙ ap (λ (n : ℕ). little width (drop n s)) e
+
+-- ---- the bodies, number by number
+
+pub control-read : (ns ms : List ℕ) → ((j : ℕ) → j < 9 → getD ns j 0 ≡ getD ms j 0) → controlOf ns ≡ controlOf ms
+control-read ns ms h = λ i.
+    record {
+      spinning = h 0 (omega arith) i;
+      coverage = h 1 (omega arith) i;
+      minload = h 2 (omega arith) i;
+      shed = h 3 (omega arith) i;
+      delay = h 4 (omega arith) i;
+      k = h 5 (omega arith) i;
+      minseconds = h 6 (omega arith) i;
+      maintain = h 7 (omega arith) i;
+      online = h 8 (omega arith) i;
+    }
+
+pub battery-read : (ns ms ks ls : List ℕ) → ((j : ℕ) → j < 2 → getD ns j 0 ≡ getD ms j 0) → ((j : ℕ) → j < 3 → getD ks j 0 ≡ getD ls j 0)
+    → batteryOf ns ks ≡ batteryOf ms ls
+battery-read ns ms ks ls h g = λ i.
+    record {
+      power = h 0 (omega arith) i;
+      efficiency = h 1 (omega arith) i;
+      least = g 0 (omega arith) i;
+      most = g 1 (omega arith) i;
+      start = g 2 (omega arith) i;
+    }
+
+-- the three contents of the battery, 8 bytes each
+pub contents-at : (s : List ℕ) (a b d : ℕ) → a ≡ little 8 (drop 76 s) → b ≡ little 8 (drop 84 s) → d ≡ little 8 (drop 92 s)
+    → (j : ℕ) → j < 3 → getD (a ∷ b ∷ d ∷ []) j 0 ≡ getD (littles 8 3 (drop 76 s)) j 0
+contents-at s a b d p q r j l = go j l ∙ sym (littles-at 8 3 j (drop 76 s) l ∙ ap (little 8) (drop-drop (8 * j) 76 s))
+  where
+    go : (j : ℕ) → j < 3 → getD (a ∷ b ∷ d ∷ []) j 0 ≡ little 8 (drop (76 + 8 * j) s)
+    go zero l = p
+    go (suc zero) l = q
+    go (suc (suc zero)) l = r
+    go (suc (suc (suc j))) l = absurd (omega (arith, l))
+
+pub set-read : (ns ms : List ℕ) → ((j : ℕ) → j < 16 → getD ns j 0 ≡ getD ms j 0) → setOf ns ≡ setOf ms
+set-read ns ms h = λ i.
+    record {
+      rating = h 0 (omega arith) i;
+      warmup = h 1 (omega arith) i;
+      cooldown = h 2 (omega arith) i;
+      interval = h 3 (omega arith) i;
+      service = h 4 (omega arith) i;
+      points = h 5 (omega arith) i;
+      loads = h 6 (omega arith) i ∷ h 8 (omega arith) i ∷ h 10 (omega arith) i ∷ h 12 (omega arith) i ∷ h 14 (omega arith) i ∷ [];
+      rates = h 7 (omega arith) i ∷ h 9 (omega arith) i ∷ h 11 (omega arith) i ∷ h 13 (omega arith) i ∷ h 15 (omega arith) i ∷ [];
+    }
+
+-- ---- a row of elements in an array whose rest is filled, one more a turn
+
+pub row-turn : {A : Type 0} (row next : List A) (v z : A) (i m : ℕ) → length row ≡ i → i < m → next ≡ row ++ (v ∷ [])
+    → set (row ++ replicate (m - i) z) i v ≡ next ++ replicate (m - (i + 1)) z
+row-turn row next v z i m l h e =
+    let k : m - i ≡ suc (m - (i + 1)) = omega arith in
+    rw (k, e) (set-at row z (replicate (m - (i + 1)) z) v i l ∙ sym (append-snoc row v (replicate (m - (i + 1)) z)))
+
+pub littles-more : (width n : ℕ) (s : List ℕ) → littles width (n + 1) s ≡ littles width n s ++ (little width (drop (width * n) s) ∷ [])
+unfolding littles
+littles-more width zero s = let e : width * 0 ≡ 0 = omega arith in rw e
+littles-more width (suc n) s =
+    let e : width + width * n ≡ width * suc n = omega arith in
+    rw add-one
+    (ap (λ (l : List ℕ). little width s ∷ l)
+    (rw add-one at (littles-more width n (drop width s)) ∙ ap (λ (l : List ℕ). littles width n (drop width s) ++ (little width l ∷ [])) (drop-drop (width * n) width s ∙ ap (λ (k : ℕ). drop k s) e)))
+
+pub sets-more : (n : ℕ) (s : List ℕ) → setsOf (n + 1) s ≡ setsOf n s ++ (setOf (littles 4 16 (drop (64 * n) s)) ∷ [])
+unfolding setsOf
+sets-more zero s = refl
+sets-more (suc n) s =
+    let e : 64 + 64 * n ≡ 64 * suc n = omega arith in
+    rw add-one
+    (ap (λ (l : List GenSet). setOf (littles 4 16 s) ∷ l)
+    (rw add-one at (sets-more n (drop 64 s)) ∙ ap (λ (l : List ℕ). setsOf n (drop 64 s) ++ (setOf (littles 4 16 l) ∷ [])) (drop-drop (64 * n) 64 s ∙ ap (λ (k : ℕ). drop k s) e)))
+
+-- a number of one byte is the byte
+pub byte-at : (s : List ℕ) (at : ℕ) → at < length s → getD s at 0 ≡ little 1 (drop at s)
+unfolding little
+byte-at s at h = sym (little-turn 0 at s h ∙ (let e : getD s at 0 + 256 * 0 ≡ getD s at 0 = omega arith in e))
