@@ -21,7 +21,7 @@ use Rattle.rules.specs.SampleFile.{Sheet, sampleSheet, nameOf, occurs, h
 use Rattle.rules.specs.Share.{capacity}
 use Rattle.rules.specs.RunRecord.{start, possible, mostSeconds}
 use Rattle.rules.specs.Second.{inputsRight, admitted, second}
-use Rattle.rules.specs.Sizing.{shareAsked, rateAsked}
+use Rattle.rules.specs.Sizing.{shareAsked, rateAsked, shareOf, rateOf}
 use Rattle.rules.specs.Run.{secondsAsked, runOf}
 use Rattle.rules.specs.RefusalTables.{Fault, fault, listed, RefusedIn, stationFaults, sampleFaults, secondsFaults, runFaults, sizingFaults, startFaults, secondFaults}
 use Rattle.rules.proofs.Tests.{never, within-fact, fact-within}
@@ -240,7 +240,7 @@ run-refusals station samples seconds =
 -- ---- the sizing screen
 
 pub share-refusals : (s : List ℕ) (mask power set : ℕ) → RefusedIn sizingFaults (shareAsked s mask power set)
-unfolding shareAsked listed
+unfolding shareAsked shareOf listed
 share-refusals s mask power set =
     bind-in sizingFaults (stationFile s) _ (in-left stationFaults (fault 8 ∷ fault 19 ∷ []) (stationFile s) (station-refusals s))
     λ st. checked sizingFaults (existingOnly (st .setcount) mask && ltb 0 mask) _ _ _ refl
@@ -248,7 +248,7 @@ share-refusals s mask power set =
     λ b. tt
 
 pub rate-refusals : (s : List ℕ) (mask power : ℕ) → RefusedIn sizingFaults (rateAsked s mask power)
-unfolding rateAsked listed
+unfolding rateAsked rateOf listed
 rate-refusals s mask power =
     bind-in sizingFaults (stationFile s) _ (in-left stationFaults (fault 8 ∷ fault 19 ∷ []) (stationFile s) (station-refusals s))
     λ st. checked sizingFaults (existingOnly (st .setcount) mask && eqb (ones mask) 1) _ _ _ refl

@@ -29,12 +29,16 @@ shareOfSet st mask power zero = 0
 shareOfSet st mask power (suc i) = if ltb i (st .setcount) then share (st .sets) mask power i else 0
 
 -- "Both answer the station's refusal, then 8 for such a mask wrong, then 19 for power above its capacity, these two with place 0."
-unfoldable pub shareAsked : List ℕ → ℕ → ℕ → ℕ → Answer ℕ
-shareAsked s mask power set = do
-  st ← stationFile s
+unfoldable pub shareOf : Station → ℕ → ℕ → ℕ → Answer ℕ
+shareOf st mask power set = do
   need (existingOnly (st .setcount) mask && ltb 0 mask) 8 0
   need (leb power (capacity (st .sets) mask)) 19 0
   accepted (shareOfSet st mask power set)
+
+unfoldable pub shareAsked : List ℕ → ℕ → ℕ → ℕ → Answer ℕ
+shareAsked s mask power set = do
+  st ← stationFile s
+  shareOf st mask power set
 
 -- ---- "fuel rate takes the first three, with a mask of one set"
 
@@ -42,9 +46,13 @@ shareAsked s mask power set = do
 unfoldable pub rateOfMask : Station → ℕ → ℕ → ℕ
 rateOfMask st mask power = sumTo 8 (λ i. if has mask i then fuelRate (setAt (st .sets) i) power else 0)
 
-unfoldable pub rateAsked : List ℕ → ℕ → ℕ → Answer ℕ
-rateAsked s mask power = do
-  st ← stationFile s
+unfoldable pub rateOf : Station → ℕ → ℕ → Answer ℕ
+rateOf st mask power = do
   need (existingOnly (st .setcount) mask && eqb (ones mask) 1) 8 0
   need (leb power (capacity (st .sets) mask)) 19 0
   accepted (rateOfMask st mask power)
+
+unfoldable pub rateAsked : List ℕ → ℕ → ℕ → Answer ℕ
+rateAsked s mask power = do
+  st ← stationFile s
+  rateOf st mask power

@@ -8,3 +8,4 @@ pub mod FileCapacity
 pub mod Signed
 pub mod Line
 pub mod FuelFacts
+pub mod FileAnswers

@@ -1,0 +1,2 @@
+-- Laws that the calls of the sizing screen lean on.
+pub mod Asked

@@ -1,0 +1,124 @@
+-- `sizing::fuel::rate_of_station` meets its contract. Assumes nothing.
+use Prim.Native.Nat.{ℕ, _≤_}
+use mathlib.Core.Path.{_≡_, refl, sym, ap, ap₂, _∙_}
+use mathlib.Core.Bool.{true, _&&_}
+use native.Mathlib.Omega.{arith}
+use lib.Count.{ones}
+use lib.Dec.{eqb}
+use borrow.Author.Tests.{not-true, not-false, eqb-true}
+use Rattle.rules.specs.Numbers.{existingOnly}
+use Rattle.rules.specs.StationRecord.{pastEnd, setAt}
+use Rattle.rules.specs.Share.{capacity}
+use Rattle.rules.specs.Sizing.{rateOf, rateOfMask}
+use Rattle.rules.proofs.Tests.{both}
+use Rattle.station.specs.Leaves.{rateOfSet}
+use Rattle.station.proofs.FileCapacity.{capacity-most}
+use Rattle.sizing.proofs.Asked.{mask-wrong, power-above, value-given, mask-small, inside, one-rate}
+use borrow.Author.Needs.{needs}
+use Rattle.sizing.proofs.fuel.rate_of_station.Statement.{statement}
+use Rattle.sizing.proofs.fuel.rate_of_station.Tie as tie
+use Rattle.sizing.proofs.fuel.rate_of_station.Reads as reads
+use Rattle.sizing.proofs.fuel.rate_of_station.Lts as lts
+use Rattle.station.proofs.fuel.fuel_rate.Reads as fuel-rate-reads
+use Rattle.station.proofs.share.capacity.Reads as capacity-reads
+use Rattle.words.proofs.masks.existing_only.Reads as existing-only-reads
+use Rattle.words.proofs.masks.next_set.Reads as next-set-reads
+
+-- what the test of the mask says
+tested : (c : tie.Else1) → existingOnly (c .before .before .args .st .setcount) (c .before .before .args .mask) && eqb (ones (c .before .before .args .mask)) 1 ≡ true
+tested c = ap₂ _&&_ (sym (c .before .existing-only .ensures)) refl ∙ not-false _ (c .if1 .left)
+
+exists : (c : tie.Else1) → (existingOnly (c .before .before .args .st .setcount) (c .before .before .args .mask) ≡ true) × (ones (c .before .before .args .mask) ≡ 1)
+exists c =
+    let a = c .before .before .args in
+    let t = both (existingOnly (a .st .setcount) (a .mask)) (eqb (ones (a .mask)) 1) (tested c) in
+    (t .0, eqb-true (ones (a .mask)) 1 (t .1))
+
+-- src/fuel.rt:20:10
+existing-only-requires : tie.Need-existing-only-requires
+existing-only-requires c κs = search needs
+
+-- src/fuel.rt:21:9
+returns : tie.Need-returns
+unfolding rateOf
+returns c =
+    let a = c .before .before .args in
+    mask-wrong (existingOnly (a .st .setcount) (a .mask) && eqb (ones (a .mask)) 1) (a .power) (capacity (a .st .sets) (a .mask)) (rateOfMask (a .st) (a .mask) (a .power)) (ap₂ _&&_ (sym (c .before .existing-only .ensures)) refl ∙ not-true _ (c .if1 .taken))
+
+-- src/fuel.rt:24:17
+cast-named : tie.Need-cast-named
+cast-named c = let a = c .before .before .before in record { fits = omega (arith, mask-small (a .args .st) (a .pre .0) (a .args .mask) (exists (c .before) .0)) }
+
+-- src/fuel.rt:25:8
+capacity-requires : tie.Need-capacity-requires
+capacity-requires c κs = search needs
+
+-- src/fuel.rt:26:9
+returns-2 : tie.Need-returns-2
+unfolding rateOf
+returns-2 c =
+    let one = c .before .before .before in
+    let a = one .before .before .args in
+    power-above (existingOnly (a .st .setcount) (a .mask) && eqb (ones (a .mask)) 1) (a .power) (capacity (a .st .sets) (a .mask)) (rateOfMask (a .st) (a .mask) (a .power)) (tested one) (omega (arith, c .before .capacity .ensures, c .if2 .taken))
+
+-- src/fuel.rt:28:14
+next-set-requires : tie.Need-next-set-requires
+next-set-requires c κs = search needs
+
+-- src/fuel.rt:28:14
+cast-at : tie.Need-cast-at
+cast-at c = search needs
+
+-- src/fuel.rt:29:13
+mul-g : tie.Need-mul-g
+mul-g c = search needs
+
+-- src/fuel.rt:29:13
+array-copy-out-g : tie.Need-array-copy-out-g
+array-copy-out-g c =
+    let one = c .before .before .before .before in
+    let a = one .before .before in
+    let e = c .next-set .ensures in
+    rw e (inside (a .args .st) (a .pre .0) (a .pre .1) (a .args .mask) (exists one .0) (exists one .1))
+
+-- src/fuel.rt:30:18
+cast-fuel-rate : tie.Need-cast-fuel-rate
+cast-fuel-rate c =
+    let test = c .before .before in
+    let a = test .before .before .before .before .before in
+    record { fits = omega (arith, capacity-most (a .args .st) (a .pre .0) (a .args .mask), test .before .capacity .ensures, test .if2 .left) }
+
+-- src/fuel.rt:30:5
+fuel-rate-requires : tie.Need-fuel-rate-requires
+fuel-rate-requires c κs = search needs
+
+-- src/fuel.rt:15:1
+returns-3 : tie.Need-returns-3
+unfolding rateOf setAt pastEnd
+returns-3 c =
+    let next = c .before .before in
+    let test = next .before in
+    let one = test .before .before .before in
+    let b = one .before .before in
+    let a = b .args in
+    let l : a .power ≤ capacity (a .st .sets) (a .mask) = omega (arith, test .before .capacity .ensures, test .if2 .left) in
+    c .fuel-rate .ensures
+    ∙ (ap (λ (i : ℕ). rateOfSet (setAt (a .st .sets) i) (a .power)) (next .next-set .ensures)
+    ∙ (one-rate (a .st) (b .pre .0) (b .pre .1) (a .mask) (exists one .0) (exists one .1) (a .power) l ∙ value-given (existingOnly (a .st .setcount) (a .mask) && eqb (ones (a .mask)) 1) (a .power) (capacity (a .st .sets) (a .mask)) (rateOfMask (a .st) (a .mask) (a .power)) (tested one) l))
+
+pub rate-of-station-spec : {M : Type 1} → statement M
+rate-of-station-spec =
+    tie.close
+    (tie.spec
+    existing-only-requires
+    returns
+    cast-named
+    capacity-requires
+    returns-2
+    next-set-requires
+    cast-at
+    mul-g
+    array-copy-out-g
+    cast-fuel-rate
+    fuel-rate-requires
+    returns-3)

@@ -1,0 +1,2 @@
+-- What the C sizing screen is handed.
+pub mod Screen
