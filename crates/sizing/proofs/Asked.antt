@@ -13,7 +13,7 @@ use lib.ListN.{getD, replicate}
 use lib.Pow.{pow-mono}
 use borrow.Author.Tests.{ltb-true, lt-ltb, le-ltb, le-leb, lt-leb}
 use Rattle.rules.specs.declared.station.Station.{Station}
-use Rattle.rules.specs.Numbers.{existingOnly, tab}
+use Rattle.rules.specs.Numbers.{existingOnly}
 use Rattle.rules.specs.Answers.{accepted, refused, need, valueOr, _>>_}
 use Rattle.rules.specs.StationRecord.{setAt, someFileGives}
 use Rattle.rules.specs.Share.{runningTotal, capacity, share}

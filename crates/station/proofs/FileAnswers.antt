@@ -14,7 +14,8 @@ use Rattle.rules.specs.StationFile.{stationFile}
 use Rattle.rules.proofs.Shapes.{Shaped}
 use Rattle.rules.proofs.StationRead.{read-is-right}
 
-value-of : {A : Type 0} (z : A) (a : Answer A) → accepted tt ≡ judged a → a ≡ accepted (valueOr z a)
+-- an answer that is accepted is so with its value
+pub value-of : {A : Type 0} (z : A) (a : Answer A) → accepted tt ≡ judged a → a ≡ accepted (valueOr z a)
 value-of z (accepted x) h = refl
 value-of z (refused n p) h = absurd (let e : _≡_ {A = ℕ} 0 1 = cc in omega arith)
 

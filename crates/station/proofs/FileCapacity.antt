@@ -4,12 +4,12 @@ use mathlib.Core.Path.{_≡_}
 use mathlib.Core.Bool.{true}
 use mathlib.Core.List.{List, [], _∷_}
 use native.Mathlib.Omega.{arith}
-use lib.Dec.{leb, eqb}
+use lib.Dec.{leb}
 use lib.ListN.{getD, take, drop}
 use borrow.Author.Tests.{eqb-true}
 use Rattle.rules.specs.declared.station.GenSet.{GenSet}
 use Rattle.rules.specs.declared.station.Station.{Station}
-use Rattle.rules.specs.Numbers.{tab, every, allZero}
+use Rattle.rules.specs.Numbers.{tab, every}
 use Rattle.rules.specs.Answers.{accepted, need, _>>_}
 use Rattle.rules.specs.Share.{runningTotal, capacity, share}
 use Rattle.rules.specs.StationRecord.{pastEnd, setAt, setRight, pairsRight, setsRight, setUnused, unusedRules, someFileGives}

@@ -9,3 +9,5 @@ pub mod Signed
 pub mod Line
 pub mod FuelFacts
 pub mod FileAnswers
+pub mod FuelTold
+pub mod SharesTold

@@ -1,7 +1,4 @@
 -- `sizing::answered` meets its contract. Assumes nothing.
-use mathlib.Core.Path.{_∙_, sym, ap}
-use Rattle.rules.specs.Answers.{amountOf}
-use Rattle.sizing.specs.Screen.{screenAnswer}
 use borrow.Author.Needs.{needs}
 use Rattle.sizing.proofs.answered.Statement.{statement}
 use Rattle.sizing.proofs.answered.Tie as tie

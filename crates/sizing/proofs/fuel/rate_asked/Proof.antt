@@ -1,5 +1,5 @@
 -- `sizing::fuel::rate_asked` meets its contract. Assumes nothing.
-use mathlib.Core.Path.{_∙_, sym}
+use mathlib.Core.Path.{_∙_}
 use Rattle.rules.specs.Sizing.{rateAsked}
 use Rattle.station.proofs.FileAnswers.{file-gives, record-right, file-refused}
 use borrow.Author.Needs.{needs}

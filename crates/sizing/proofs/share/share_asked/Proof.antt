@@ -1,5 +1,5 @@
 -- `sizing::share::share_asked` meets its contract. Assumes nothing.
-use mathlib.Core.Path.{_∙_, sym}
+use mathlib.Core.Path.{_∙_}
 use Rattle.rules.specs.Sizing.{shareAsked}
 use Rattle.station.proofs.FileAnswers.{file-gives, record-right, file-refused}
 use borrow.Author.Needs.{needs}

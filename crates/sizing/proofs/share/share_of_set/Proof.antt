@@ -1,6 +1,6 @@
 -- `sizing::share::share_of_set` meets its contract. Assumes nothing.
-use Prim.Native.Nat.{_-_, _≤_, _<_}
-use mathlib.Core.Path.{sym, _∙_}
+use Prim.Native.Nat.{_-_, _<_}
+use mathlib.Core.Path.{_∙_}
 use native.Mathlib.Omega.{arith}
 use Rattle.rules.proofs.StationFacts.{right-of}
 use Rattle.sizing.proofs.Asked.{no-set-zero, no-set-beyond, set-share, watts-shared}

@@ -1,5 +1,4 @@
 -- `station::bodies::no_set` meets its contract. Assumes nothing.
-use borrow.Author.Needs.{needs}
 use mathlib.Core.Path.{refl}
 use Rattle.rules.specs.StationRecord.{noSet}
 use Rattle.station.proofs.bodies.no_set.Statement.{statement}

@@ -1,12 +1,12 @@
 -- `station::record::configurations_unused` meets its contract. Assumes nothing.
 use borrow.Author.Needs.{needs}
-use Prim.Native.Nat.{ℕ, _-_, _≤_}
-use mathlib.Core.Path.{_≡_, refl, sym, _∙_}
+use Prim.Native.Nat.{_-_}
+use mathlib.Core.Path.{_≡_, refl}
 use mathlib.Core.Bool.{_&&_}
 use native.Mathlib.Omega.{arith}
 use lib.Dec.{eqb}
 use lib.ListN.{length, drop}
-use Rattle.rules.specs.Numbers.{every, allZero}
+use Rattle.rules.specs.Numbers.{allZero}
 use Rattle.rules.proofs.Tests.{every-turn, every-end}
 use Rattle.station.proofs.record.configurations_unused.Statement.{statement}
 use Rattle.station.proofs.record.configurations_unused.Tie as tie

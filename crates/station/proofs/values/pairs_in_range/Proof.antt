@@ -1,9 +1,8 @@
 -- `station::values::pairs_in_range` meets its contract. Assumes nothing.
 use borrow.Author.Needs.{needs}
-use Prim.Native.Nat.{suc, _-_, _≤_}
+use Prim.Native.Nat.{_-_, _≤_}
 use mathlib.Core.Path.{_≡_, refl}
 use native.Mathlib.Omega.{arith}
-use native.Mathlib.Numerals.{add-one}
 use lib.ListN.{getD}
 use Rattle.rules.specs.Numbers.{allTo}
 use Rattle.rules.specs.StationRecord.{pairRight}
