@@ -44,16 +44,6 @@ abbrev pub valueOr : {A : Type 0} → A → Answer A → A
 valueOr z (accepted a) = a
 valueOr z (refused number place) = z
 
--- the number of a refusal, and 0 where there is none
-abbrev pub number : {A : Type 0} → Answer A → ℕ
-number (accepted a) = 0
-number (refused n p) = n
-
--- the place of a refusal, and 0 where there is none
-abbrev pub place : {A : Type 0} → Answer A → ℕ
-place (accepted a) = 0
-place (refused n p) = p
-
 -- the number and the place of a refusal, in this order, and none where there is no refusal
 abbrev pub refusal : {A : Type 0} → Answer A → List ℕ
 refusal (accepted a) = []

@@ -12,8 +12,7 @@ use rules::answers::Amount;
 use rules::answers::Refusal;
 use rules::answers::Verdict;
 use station::reader::read_station;
-use words::refusals::number;
-use words::refusals::place;
+use words::refusals::number_and_place;
 
 // `number` is 0 where `value` is the answer; else it is document 01's refusal, with its `place`.
 #[repr(C)]
@@ -26,9 +25,10 @@ pub struct SizingAnswer {
 fn refused(refusal: Refusal) -> SizingAnswer
     ensures { λ r. ⌜ r ≡ screenAnswer (refusalOf {A = ℕ} refusal) ⌝ }
 {
+    let told = number_and_place(refusal);
     SizingAnswer {
-        number: number(refusal),
-        place: place(refusal),
+        number: told.0,
+        place: told.1,
         value: 0,
     }
 }

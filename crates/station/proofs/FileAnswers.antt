@@ -4,11 +4,12 @@ use mathlib.Core.Path.{_≡_, refl, sym, ap, ap₂, _∙_}
 use mathlib.Core.Bool.{true}
 use mathlib.Core.List.{List}
 use native.Mathlib.Omega.{arith}
+use lib.ListN.{getD}
 use Rattle.rules.specs.declared.answers.Refusal.{Refusal}
 use Rattle.rules.specs.declared.answers.Verdict.{Verdict}
 use Rattle.rules.specs.declared.answers.Verdict.the-variants.{Accepted, Refused}
 use Rattle.rules.specs.declared.station.Station.{Station}
-use Rattle.rules.specs.Answers.{Answer, accepted, refused, judged, number, place, valueOr, refusalOf, verdictOf}
+use Rattle.rules.specs.Answers.{Answer, accepted, refused, judged, valueOr, refusal, refusalOf, verdictOf}
 use Rattle.rules.specs.StationRecord.{noStation, someFileGives}
 use Rattle.rules.specs.StationFile.{stationFile}
 use Rattle.rules.proofs.Shapes.{Shaped}
@@ -21,7 +22,7 @@ value-of z (refused n p) h = absurd (let e : _≡_ {A = ℕ} 0 1 = cc in omega a
 
 fault-of : {A : Type 0} (n p : ℕ) (a : Answer A) → refused n p ≡ judged a → a ≡ refused n p
 fault-of n p (accepted x) h = absurd (let e : _≡_ {A = ℕ} 0 1 = cc in omega arith)
-fault-of n p (refused m q) h = sym (ap₂ refused (ap number h) (ap place h))
+fault-of n p (refused m q) h = sym (ap₂ refused (ap (λ a. getD (refusal a) 0 0) h) (ap (λ a. getD (refusal a) 1 0) h))
 
 module _ (s : List ℕ) (v : Verdict) (verdict : verdictOf v ≡ judged (stationFile s)) where
   module _ (st : Station) (record-is : st ≡ valueOr noStation (stationFile s)) (passed : v ≡ Accepted) where
