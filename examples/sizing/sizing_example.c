@@ -6,6 +6,7 @@
  * read is a message on standard error and exit status 2. To build and run it, from the repository's top folder:
  *
  *     rt staticlib sizing
+ *     mkdir -p build
  *     cc -std=c11 -Iinclude examples/sizing/sizing_example.c target/staticlib/libsizing.a -o build/sizing_example
  *     build/sizing_example examples/station-a/station 3 25000
  */
