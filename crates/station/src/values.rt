@@ -122,10 +122,12 @@ fn sets_right(sets: [GenSet; 8], setcount: usize) -> Verdict
     while i < setcount {
         let g = sets[i];
         i += 1;
-        if !set_right(g) {
+        let numbers = set_right(g);
+        let pairs = pairs_right(g);
+        if !numbers {
             return Verdict::Refused(Refusal::SetNumber(i as u32));
         }
-        if !pairs_right(g) {
+        if !pairs {
             return Verdict::Refused(Refusal::SetPairs(i as u32));
         }
     }

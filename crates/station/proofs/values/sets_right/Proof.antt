@@ -40,34 +40,36 @@ add-i c = search needs
 set-right-requires : tie.Need-set-right-requires Inv-loop μ-loop
 set-right-requires c κs = search needs
 
--- src/values.rt:126:56
-cast-t12 : tie.Need-cast-t12 Inv-loop μ-loop
-cast-t12 c = search needs
-
 -- src/values.rt:126:13
-returns : tie.Need-returns Inv-loop μ-loop
-unfolding setAt pastEnd
-returns c =
-    let at = c .before .before .before .before in
-    let a = at .before .args in
-    set-number (a .t1) (a .setcount) _ (at .loop .i) (at .loop .inv .1) (at .loop .inv .2) (search needs) (sym (c .before .set-right .ensures) ∙ not-true _ (c .if1 .taken))
-
--- src/values.rt:128:13
 pairs-right-requires : tie.Need-pairs-right-requires Inv-loop μ-loop
 pairs-right-requires c κs = search needs
 
--- src/values.rt:129:55
-cast-t14 : tie.Need-cast-t14 Inv-loop μ-loop
-cast-t14 c = search needs
+-- src/values.rt:128:56
+cast-t13 : tie.Need-cast-t13 Inv-loop μ-loop
+cast-t13 c = search needs
 
--- src/values.rt:129:13
+-- src/values.rt:128:13
+returns : tie.Need-returns Inv-loop μ-loop
+unfolding setAt pastEnd
+returns c = 
+    let set = c .before .before in
+    let at = set .before .before .before in
+    let a = at .before .args in
+    set-number (a .t1) (a .setcount) _ (at .loop .i) (at .loop .inv .1) (at .loop .inv .2) (search needs) (sym (set .set-right .ensures) ∙ not-true _ (c .if1 .taken))
+
+-- src/values.rt:131:55
+cast-t15 : tie.Need-cast-t15 Inv-loop μ-loop
+cast-t15 c = search needs
+
+-- src/values.rt:131:13
 returns-2 : tie.Need-returns-2 Inv-loop μ-loop
 unfolding setAt pastEnd
-returns-2 c =
-    let set = c .before .before in
-    let at = set .before .before .before .before in
+returns-2 c = 
+    let one = c .before in
+    let set = one .before .before in
+    let at = set .before .before .before in
     let a = at .before .args in
-    set-pairs (a .t1) (a .setcount) _ (at .loop .i) (at .loop .inv .1) (at .loop .inv .2) (search needs) (sym (set .before .set-right .ensures) ∙ not-false _ (set .if1 .left)) (sym (c .before .pairs-right .ensures) ∙ not-true _ (c .if2 .taken))
+    set-pairs (a .t1) (a .setcount) _ (at .loop .i) (at .loop .inv .1) (at .loop .inv .2) (search needs) (sym (set .set-right .ensures) ∙ not-false _ (one .if1 .left)) (sym (one .before .pairs-right .ensures) ∙ not-true _ (c .if2 .taken))
 
 -- src/values.rt:122:5
 loop-less : tie.Need-loop-less Inv-loop μ-loop
@@ -76,16 +78,17 @@ loop-less c = search needs
 -- src/values.rt:122:5
 loop-again : tie.Need-loop-again Inv-loop μ-loop
 unfolding setAt pastEnd
-loop-again c =
-    let set = c .before .before in
-    let at = set .before .before .before .before in
+loop-again c = 
+    let one = c .before in
+    let set = one .before .before in
+    let at = set .before .before .before in
     let a = at .before .args in
     let fits = at .loop .inv .1 in
-    (at .loop .inv .0, fits, set-in-order (a .t1) (a .setcount) _ (at .loop .i) fits (at .loop .inv .2) (search needs) (sym (set .before .set-right .ensures) ∙ not-false _ (set .if1 .left)) (sym (c .before .pairs-right .ensures) ∙ not-false _ (c .if2 .left)))
+    (at .loop .inv .0, fits, set-in-order (a .t1) (a .setcount) _ (at .loop .i) fits (at .loop .inv .2) (search needs) (sym (set .set-right .ensures) ∙ not-false _ (one .if1 .left)) (sym (one .before .pairs-right .ensures) ∙ not-false _ (c .if2 .left)))
 
 -- src/values.rt:117:1
 returns-3 : tie.Need-returns-3 Inv-loop μ-loop
-returns-3 c =
+returns-3 c = 
     let at = c .before in
     let a = at .before .args in
     sets-in-order (a .t1) (a .setcount) _ (at .loop .i) (at .loop .inv .1) (at .loop .inv .2) (search needs)
@@ -101,10 +104,10 @@ sets-right-spec =
     array-copy-out-g
     add-i
     set-right-requires
-    cast-t12
-    returns
     pairs-right-requires
-    cast-t14
+    cast-t13
+    returns
+    cast-t15
     returns-2
     loop-less
     loop-again
