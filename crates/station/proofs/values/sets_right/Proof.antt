@@ -51,7 +51,7 @@ cast-t13 c = search needs
 -- src/values.rt:128:13
 returns : tie.Need-returns Inv-loop μ-loop
 unfolding setAt pastEnd
-returns c = 
+returns c =
     let set = c .before .before in
     let at = set .before .before .before in
     let a = at .before .args in
@@ -64,7 +64,7 @@ cast-t15 c = search needs
 -- src/values.rt:131:13
 returns-2 : tie.Need-returns-2 Inv-loop μ-loop
 unfolding setAt pastEnd
-returns-2 c = 
+returns-2 c =
     let one = c .before in
     let set = one .before .before in
     let at = set .before .before .before in
@@ -78,7 +78,7 @@ loop-less c = search needs
 -- src/values.rt:122:5
 loop-again : tie.Need-loop-again Inv-loop μ-loop
 unfolding setAt pastEnd
-loop-again c = 
+loop-again c =
     let one = c .before in
     let set = one .before .before in
     let at = set .before .before .before in
@@ -88,7 +88,7 @@ loop-again c =
 
 -- src/values.rt:117:1
 returns-3 : tie.Need-returns-3 Inv-loop μ-loop
-returns-3 c = 
+returns-3 c =
     let at = c .before in
     let a = at .before .args in
     sets-in-order (a .t1) (a .setcount) _ (at .loop .i) (at .loop .inv .1) (at .loop .inv .2) (search needs)
