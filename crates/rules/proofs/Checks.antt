@@ -2,7 +2,7 @@
 use Prim.Native.Nat.{ℕ}
 use mathlib.Core.Path.{_≡_, refl}
 use mathlib.Core.Bool.{Bool, true, false}
-use Rattle.rules.specs.Answers.{Answer, accepted, refused, need, isAccepted, _>>=_, _>>_}
+use Rattle.rules.specs.Answers.{Answer, accepted, refused, need, isAccepted, judged, valueOr, _>>=_, _>>_}
 use native.Mathlib.Omega.{arith}
 
 -- a check that passes leaves the rest
@@ -36,3 +36,8 @@ is-accepted (refused n p) h = absurd (let z : _≡_ {A = ℕ} 0 1 = cc in omega 
 
 pub same-value : {A : Type 0} (a b : A) → _≡_ {A = Answer A} (accepted a) (accepted b) → a ≡ b
 same-value a b h = cc
+
+-- an answer that is accepted is so with its value
+pub value-of : {A : Type 0} (z : A) (a : Answer A) → accepted tt ≡ judged a → a ≡ accepted (valueOr z a)
+value-of z (accepted x) h = refl
+value-of z (refused n p) h = absurd (let e : _≡_ {A = ℕ} 0 1 = cc in omega arith)

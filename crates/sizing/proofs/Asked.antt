@@ -26,10 +26,10 @@ use Rattle.rules.proofs.StationFacts.{right-of}
 use Rattle.words.specs.Masks.{nextSet}
 use Rattle.words.proofs.Walk.{place}
 use Rattle.words.proofs.Weighed.{one-set-inside, one-set-weighed}
-use Rattle.station.specs.Leaves.{sharesAsked, rateOfSet}
-use Rattle.station.proofs.SharesAsked.{asked-within}
-use Rattle.station.proofs.FuelFacts.{station-rate}
-use Rattle.station.proofs.FileCapacity.{capacity-most}
+use Rattle.gensets.specs.Leaves.{sharesAsked, rateOfSet}
+use Rattle.gensets.proofs.SharesAsked.{asked-within}
+use Rattle.gensets.proofs.FuelFacts.{station-rate}
+use Rattle.gensets.proofs.FileCapacity.{capacity-most}
 
 -- ---- the order, for any test of the mask
 

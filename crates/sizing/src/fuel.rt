@@ -5,13 +5,13 @@ ghost use Rattle.rules.specs.Answers.{amountOf};
 ghost use Rattle.rules.specs.StationRecord.{someFileGives};
 ghost use Rattle.rules.specs.Sizing.{rateAsked, rateOf};
 ghost use Rattle.rules.proofs.Shapes.{Shaped};
+use gensets::fuel::fuel_rate;
+use gensets::share::capacity;
 use rules::answers::Amount;
 use rules::answers::Refusal;
 use rules::answers::Verdict;
 use rules::station::Station;
-use station::fuel::fuel_rate;
 use station::reader::read_station;
-use station::share::capacity;
 use words::masks::existing_only;
 use words::masks::next_set;
 

@@ -6,13 +6,13 @@ ghost use Rattle.rules.specs.Answers.{amountOf};
 ghost use Rattle.rules.specs.Share.{capacity};
 ghost use Rattle.rules.specs.StationRecord.{someFileGives};
 ghost use Rattle.rules.specs.Sizing.{shareAsked, shareOf, shareOfSet};
+use gensets::share::capacity;
+use gensets::share::shares;
 use rules::answers::Amount;
 use rules::answers::Refusal;
 use rules::answers::Verdict;
 use rules::station::Station;
 use station::reader::read_station;
-use station::share::capacity;
-use station::share::shares;
 use words::masks::existing_only;
 
 // 0 for a set that the station or the mask has not.

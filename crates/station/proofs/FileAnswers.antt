@@ -12,13 +12,9 @@ use Rattle.rules.specs.declared.station.Station.{Station}
 use Rattle.rules.specs.Answers.{Answer, accepted, refused, judged, valueOr, refusal, refusalOf, verdictOf}
 use Rattle.rules.specs.StationRecord.{noStation, someFileGives}
 use Rattle.rules.specs.StationFile.{stationFile}
+use Rattle.rules.proofs.Checks.{value-of}
 use Rattle.rules.proofs.Shapes.{Shaped}
 use Rattle.rules.proofs.StationRead.{read-is-right}
-
--- an answer that is accepted is so with its value
-pub value-of : {A : Type 0} (z : A) (a : Answer A) → accepted tt ≡ judged a → a ≡ accepted (valueOr z a)
-value-of z (accepted x) h = refl
-value-of z (refused n p) h = absurd (let e : _≡_ {A = ℕ} 0 1 = cc in omega arith)
 
 fault-of : {A : Type 0} (n p : ℕ) (a : Answer A) → refused n p ≡ judged a → a ≡ refused n p
 fault-of n p (accepted x) h = absurd (let e : _≡_ {A = ℕ} 0 1 = cc in omega arith)

@@ -2,12 +2,4 @@
 pub mod Orders
 pub mod Reading
 pub mod ContentsOrder
-pub mod SharesWalk
-pub mod SharesAsked
-pub mod FileCapacity
-pub mod Signed
-pub mod Line
-pub mod FuelFacts
 pub mod FileAnswers
-pub mod FuelTold
-pub mod SharesTold

@@ -1,10 +1,8 @@
-// A station: its file, its record, and the numbers that its sets give.
+// A station: its file, and its record.
 mod bodies;
 mod contents;
-pub mod fuel;
 mod layout;
 mod numbers;
 pub mod reader;
 pub mod record;
-pub mod share;
 mod values;

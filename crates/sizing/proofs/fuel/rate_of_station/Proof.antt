@@ -11,16 +11,16 @@ use Rattle.rules.specs.StationRecord.{pastEnd, setAt}
 use Rattle.rules.specs.Share.{capacity}
 use Rattle.rules.specs.Sizing.{rateOf, rateOfMask}
 use Rattle.rules.proofs.Tests.{both}
-use Rattle.station.specs.Leaves.{rateOfSet}
-use Rattle.station.proofs.FileCapacity.{capacity-most}
+use Rattle.gensets.specs.Leaves.{rateOfSet}
+use Rattle.gensets.proofs.FileCapacity.{capacity-most}
 use Rattle.sizing.proofs.Asked.{mask-wrong, power-above, value-given, mask-small, inside, one-rate}
 use borrow.Author.Needs.{needs}
 use Rattle.sizing.proofs.fuel.rate_of_station.Statement.{statement}
 use Rattle.sizing.proofs.fuel.rate_of_station.Tie as tie
 use Rattle.sizing.proofs.fuel.rate_of_station.Reads as reads
 use Rattle.sizing.proofs.fuel.rate_of_station.Lts as lts
-use Rattle.station.proofs.fuel.fuel_rate.Reads as fuel-rate-reads
-use Rattle.station.proofs.share.capacity.Reads as capacity-reads
+use Rattle.gensets.proofs.fuel.fuel_rate.Reads as fuel-rate-reads
+use Rattle.gensets.proofs.share.capacity.Reads as capacity-reads
 use Rattle.words.proofs.masks.existing_only.Reads as existing-only-reads
 use Rattle.words.proofs.masks.next_set.Reads as next-set-reads
 

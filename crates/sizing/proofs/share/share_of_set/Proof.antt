@@ -9,7 +9,7 @@ use Rattle.sizing.proofs.share.share_of_set.Statement.{statement}
 use Rattle.sizing.proofs.share.share_of_set.Tie as tie
 use Rattle.sizing.proofs.share.share_of_set.Reads as reads
 use Rattle.sizing.proofs.share.share_of_set.Lts as lts
-use Rattle.station.proofs.share.shares.Reads as shares-reads
+use Rattle.gensets.proofs.share.shares.Reads as shares-reads
 
 -- src/share.rt:22:9
 returns : tie.Need-returns

@@ -10,7 +10,7 @@ use Rattle.rules.specs.Answers.{accepted}
 use Rattle.rules.specs.Share.{capacity}
 use Rattle.rules.specs.Sizing.{shareOf, shareOfSet}
 use Rattle.rules.proofs.Tests.{both}
-use Rattle.station.proofs.FileCapacity.{capacity-most}
+use Rattle.gensets.proofs.FileCapacity.{capacity-most}
 use Rattle.sizing.proofs.Asked.{mask-wrong, power-above, value-given, mask-small}
 use borrow.Author.Needs.{needs}
 use Rattle.sizing.proofs.share.share_of_station.Statement.{statement}
@@ -18,7 +18,7 @@ use Rattle.sizing.proofs.share.share_of_station.Tie as tie
 use Rattle.sizing.proofs.share.share_of_station.Reads as reads
 use Rattle.sizing.proofs.share.share_of_station.Lts as lts
 use Rattle.sizing.proofs.share.share_of_set.Reads as share-of-set-reads
-use Rattle.station.proofs.share.capacity.Reads as capacity-reads
+use Rattle.gensets.proofs.share.capacity.Reads as capacity-reads
 use Rattle.words.proofs.masks.existing_only.Reads as existing-only-reads
 
 -- what the test of the mask says

@@ -1,0 +1,9 @@
+-- Laws of capacity, shares and fuel rate: those that the code leans on, and those that its callers do.
+pub mod SharesWalk
+pub mod SharesAsked
+pub mod SharesTold
+pub mod FileCapacity
+pub mod Signed
+pub mod Line
+pub mod FuelFacts
+pub mod FuelTold

@@ -1,0 +1,3 @@
+// What the sets of a mask give together and each, and what a set burns.
+pub mod fuel;
+pub mod share;

@@ -1,0 +1,88 @@
+// Steps 2 and 6: the capacity of a mask, and what each of its sets takes of the diesel power.
+ghost use mathlib.Core.Path.{_≡_};
+ghost use lib.ListN.{replicate};
+ghost use Rattle.rules.specs.Answers.{judged, valueOr, verdictOf};
+ghost use Rattle.rules.specs.Numbers.{tab};
+ghost use Rattle.rules.specs.Share.{capacity, share};
+ghost use Rattle.gensets.specs.Leaves.{Shareable, sharesAsked};
+use rules::answers::Refusal;
+use rules::answers::Verdict;
+use rules::station::GenSet;
+use words::masks::next_set;
+
+// Eight sets of at most 10,000,000 W each.
+const MOST_CAPACITY: u64 = 80_000_000;
+
+// Each place's watts, beside whether they could be told; all 0 where not.
+pub struct ShareAnswer {
+    pub verdict: Verdict,
+    pub watts: [u32; 8],
+}
+
+// The ratings of the mask's sets, summed.
+pub fn capacity(sets: [GenSet; 8], mask: u32) -> u64
+    ensures { λ r. ⌜ r ≡ capacity sets mask ⌝ }
+{
+    let mut sum: u64 = 0;
+    let mut i = next_set(mask, 0);
+    while i < 8 {
+        let g = sets[i as usize];
+        sum += g.rating as u64;
+        i = next_set(mask, i + 1);
+    }
+    sum
+}
+
+// What each set of the mask takes of some diesel power that the capacity allows; a place that the mask has not takes nothing.
+fn taken(sets: [GenSet; 8], mask: u32, diesel: u32, cap: u64) -> [u32; 8]
+    requires { ⌜ Shareable sets mask diesel cap ⌝ }
+    ensures { λ r. ⌜ r ≡ tab 8 (share sets mask diesel) ⌝ }
+{
+    let mut out = [0u32; 8];
+    let mut sum: u64 = 0;
+    let mut given: u64 = 0;
+    let mut place = next_set(mask, 0);
+    while place < 8 {
+        let at = place as usize;
+        let g = sets[at];
+        let rating = g.rating as u64;
+        sum += rating;
+        // each less what the sets before it took: rounded alone, the shares would miss the diesel power
+        let upto = (diesel as u64) * sum / cap;
+        out[at] = (upto - given) as u32;
+        given = upto;
+        place = next_set(mask, place + 1);
+    }
+    out
+}
+
+// What each set of the mask takes of the diesel power.
+pub fn shares(sets: [GenSet; 8], mask: u32, diesel: u32) -> ShareAnswer
+    ensures { λ r. ⌜ (verdictOf (r .verdict) ≡ judged (sharesAsked sets mask diesel)) × (r .watts ≡ valueOr (replicate 8 0) (sharesAsked sets mask diesel)) ⌝ }
+{
+    let cap = capacity(sets, mask);
+    if MOST_CAPACITY < cap {
+        return ShareAnswer {
+            verdict: Verdict::Refused(Refusal::StationRecord),
+            watts: [0; 8],
+        };
+    }
+    if cap < diesel as u64 {
+        return ShareAnswer {
+            verdict: Verdict::Refused(Refusal::OverLimit(0)),
+            watts: [0; 8],
+        };
+    }
+    // no power asks nothing of a set, and for any other the capacity is not 0
+    if diesel == 0 {
+        return ShareAnswer {
+            verdict: Verdict::Accepted,
+            watts: [0; 8],
+        };
+    }
+    let watts = taken(sets, mask, diesel, cap);
+    ShareAnswer {
+        verdict: Verdict::Accepted,
+        watts,
+    }
+}
