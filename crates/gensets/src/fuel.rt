@@ -8,6 +8,11 @@ ghost use Rattle.rules.specs.Fuel.{notBelowZero, lowerPoint, exactFrom, stepAt}
 ghost use Rattle.gensets.specs.Leaves.{lineRight, rateOfSet};
 use rules::answers::Amount;
 use rules::answers::Refusal;
+use rules::limits::LEAST_POINTS;
+use rules::limits::MOST_LOAD;
+use rules::limits::MOST_POINTS;
+use rules::limits::MOST_RATE;
+use rules::limits::MOST_RATING;
 use rules::station::GenSet;
 
 // The whole product of two numbers.
@@ -63,11 +68,11 @@ fn line_right(g: GenSet, j: usize) -> bool
     let rates = g.rates;
     let next = loads[j + 1];
     (1 <= g.rating)
-        & (g.rating <= 10_000_000)
+        & (g.rating <= MOST_RATING)
         & (loads[j] < next)
-        & (next <= 1_500)
-        & (rates[j] <= 10_000_000)
-        & (rates[j + 1] <= 10_000_000)
+        & (next <= MOST_LOAD)
+        & (rates[j] <= MOST_RATE)
+        & (rates[j + 1] <= MOST_RATE)
 }
 
 // mL/h at a power on the line through the points j and j + 1.
@@ -92,10 +97,10 @@ fn line_rate(g: GenSet, j: usize, power: u32) -> u64
 pub fn fuel_rate(g: GenSet, power: u32) -> Amount
     ensures { λ r. ⌜ amountOf r ≡ rateOfSet g power ⌝ }
 {
-    if g.points < 2 {
+    if g.points < LEAST_POINTS {
         return Amount::Refused(Refusal::StationRecord);
     }
-    if 5 < g.points {
+    if MOST_POINTS < g.points {
         return Amount::Refused(Refusal::StationRecord);
     }
     let j = lower_point(g, power);

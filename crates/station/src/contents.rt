@@ -14,6 +14,8 @@ use crate::layout::SETS_OFFSET;
 use crate::numbers::number_at;
 use rules::answers::Refusal;
 use rules::answers::Verdict;
+use rules::limits::LEAST_FILE;
+use rules::limits::MOST_FILE;
 
 fn entry_right(s: &[u8], place: usize, kind: u64, least: u64, most: u64, offset: usize) -> bool
     requires { ⌜ (32 ≤ length (now s)) × (place ≤ 3) ⌝ }
@@ -30,10 +32,10 @@ pub(crate) fn contents_right(s: &[u8]) -> Verdict
     ensures { λ r. ⌜ verdictOf r ≡ contentsRight (now (s .entry)) ⌝ }
 {
     let size = s.len();
-    if size < 165 {
+    if size < LEAST_FILE {
         return Verdict::Refused(Refusal::StationSize);
     }
-    if 676 < size {
+    if MOST_FILE < size {
         return Verdict::Refused(Refusal::StationSize);
     }
     if !entry_right(s, 0, 1, 1, 1, CONTROL_OFFSET) {

@@ -5,6 +5,8 @@ ghost use Rattle.rules.specs.Numbers.{every, allZero};
 ghost use Rattle.rules.specs.StationRecord.{setUnused, someFileGives};
 use crate::values::values_right;
 use rules::answers::Verdict;
+use rules::limits::MOST_CONFIGURATIONS;
+use rules::limits::MOST_SETS;
 use rules::station::GenSet;
 use rules::station::Station;
 
@@ -65,7 +67,8 @@ pub fn some_file_gives(st: Station) -> bool
 {
     let setcount = st.setcount;
     let configcount = st.configcount;
-    if !(((1 <= setcount) & (setcount <= 8)) & ((1 <= configcount) & (configcount <= 64))) {
+    if !(((1 <= setcount) & (setcount <= MOST_SETS))
+        & ((1 <= configcount) & (configcount <= MOST_CONFIGURATIONS))) {
         return false;
     }
     let verdict = values_right(st);

@@ -7,6 +7,21 @@ ghost use Rattle.rules.specs.Answers.{verdictOf};
 ghost use Rattle.rules.specs.StationRecord.{controlRight, batteryRight, serviceRight, setRight, pairRight, rises, pairsRight, configurationRight, setsRight, configurationsRight, valuesRight};
 use rules::answers::Refusal;
 use rules::answers::Verdict;
+use rules::limits::LEAST_POINTS;
+use rules::limits::MOST_CONTENT;
+use rules::limits::MOST_COOLDOWN;
+use rules::limits::MOST_INTERVAL;
+use rules::limits::MOST_K;
+use rules::limits::MOST_LOAD;
+use rules::limits::MOST_MINIMUM_SECONDS;
+use rules::limits::MOST_PERCENT;
+use rules::limits::MOST_POINTS;
+use rules::limits::MOST_POWER;
+use rules::limits::MOST_RATE;
+use rules::limits::MOST_RATING;
+use rules::limits::MOST_SERVICE;
+use rules::limits::MOST_SHED_DELAY;
+use rules::limits::MOST_WARMUP;
 use rules::station::Battery;
 use rules::station::Control;
 use rules::station::GenSet;
@@ -17,13 +32,13 @@ use words::masks::existing_only;
 fn control_right(setcount: usize, c: Control) -> bool
     ensures { λ r. ⌜ r ≡ controlRight setcount c ⌝ }
 {
-    (c.spinning <= 50_000_000)
-        & (c.coverage <= 100)
-        & (c.minload <= 100)
-        & (c.shed <= 100)
-        & ((1 <= c.delay) & (c.delay <= 60))
-        & (c.k <= 999)
-        & (c.minseconds <= 86_400)
+    (c.spinning <= MOST_POWER)
+        & (c.coverage <= MOST_PERCENT)
+        & (c.minload <= MOST_PERCENT)
+        & (c.shed <= MOST_PERCENT)
+        & ((1 <= c.delay) & (c.delay <= MOST_SHED_DELAY))
+        & (c.k <= MOST_K)
+        & (c.minseconds <= MOST_MINIMUM_SECONDS)
         & (c.maintain <= 1)
         & existing_only(setcount, c.online as u64)
 }
@@ -32,11 +47,11 @@ fn control_right(setcount: usize, c: Control) -> bool
 fn battery_right(b: Battery) -> bool
     ensures { λ r. ⌜ r ≡ batteryRight b ⌝ }
 {
-    (b.power <= 50_000_000)
-        & ((1 <= b.efficiency) & (b.efficiency <= 100))
+    (b.power <= MOST_POWER)
+        & ((1 <= b.efficiency) & (b.efficiency <= MOST_PERCENT))
         & (b.least <= b.start)
         & (b.start <= b.most)
-        & (b.most <= 10_000_000_000_000)
+        & (b.most <= MOST_CONTENT)
 }
 
 fn service_right(interval: u32, service: u32) -> bool
@@ -45,26 +60,26 @@ fn service_right(interval: u32, service: u32) -> bool
     if interval == 0 {
         return service == 0;
     }
-    (1 <= service) & (service <= 2_592_000)
+    (1 <= service) & (service <= MOST_SERVICE)
 }
 
 // 6
 fn set_right(g: GenSet) -> bool
     ensures { λ r. ⌜ r ≡ setRight g ⌝ }
 {
-    ((1 <= g.rating) & (g.rating <= 10_000_000))
-        & ((1 <= g.warmup) & (g.warmup <= 3_600))
-        & ((1 <= g.cooldown) & (g.cooldown <= 3_600))
-        & (g.interval <= 100_000_000)
+    ((1 <= g.rating) & (g.rating <= MOST_RATING))
+        & ((1 <= g.warmup) & (g.warmup <= MOST_WARMUP))
+        & ((1 <= g.cooldown) & (g.cooldown <= MOST_COOLDOWN))
+        & (g.interval <= MOST_INTERVAL)
         & service_right(g.interval, g.service)
-        & ((2 <= g.points) & (g.points <= 5))
+        & ((LEAST_POINTS <= g.points) & (g.points <= MOST_POINTS))
 }
 
 fn pair_right(points: u32, place: u32, load: u32, rate: u32) -> bool
     ensures { λ r. ⌜ r ≡ pairRight points place load rate ⌝ }
 {
     if place < points {
-        return (load <= 1_500) & (rate <= 10_000_000);
+        return (load <= MOST_LOAD) & (rate <= MOST_RATE);
     }
     (load == 0) & (rate == 0)
 }
