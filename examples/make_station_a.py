@@ -1,8 +1,9 @@
 #!/usr/bin/env python3
-"""Writes Station A of document 01 into examples/station-a: the station file, the samples, and the rows that the paper prints."""
-import os, struct
+"""make_station_a.py [FOLDER]: writes Station A of document 01 into a folder, else into examples/station-a: the station file, the
+samples, and the rows that the paper prints."""
+import os, struct, sys
 
-HERE = os.path.join(os.path.dirname(os.path.abspath(__file__)), 'station-a')
+FOLDER = sys.argv[1] if len(sys.argv) > 1 else os.path.join(os.path.dirname(os.path.abspath(__file__)), 'station-a')
 CONTROL = [10000, 50, 40, 90, 1, 0, 3, 0, 2]
 BATTERY = (20000, 90, 0, 9000000, 1000000)
 SETS = [
@@ -36,7 +37,7 @@ def station():
     return contents + struct.pack('<9I', *CONTROL) + struct.pack('<IIQQQ', *BATTERY) + sets + bytes(MASKS)
 
 
-os.makedirs(HERE, exist_ok=True)
+os.makedirs(FOLDER, exist_ok=True)
 for name, content in [('station', station()), ('samples.csv', SAMPLES.encode()), ('rows.csv', ROWS.encode())]:
-    with open(os.path.join(HERE, name), 'wb') as f:
+    with open(os.path.join(FOLDER, name), 'wb') as f:
         f.write(content)

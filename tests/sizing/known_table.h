@@ -1,4 +1,4 @@
-/* The known answers: worked out by hand from document 01, and not by any program. */
+/* The known answers: what document 01 gives, written down here and not asked of any program when the test runs. */
 #ifndef KNOWN_TABLE_H
 #define KNOWN_TABLE_H
 
