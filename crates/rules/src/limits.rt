@@ -1,4 +1,4 @@
-// The limits of document 01, "The station file", for the code that asks them. The definitions have the numbers as the paper has them.
+// The limits of document 01 for the code that asks them. The definitions have the numbers as the paper has them.
 
 // "a file has 165 to 676 bytes"
 pub const LEAST_FILE: usize = 165;
@@ -10,7 +10,7 @@ pub const MOST_SETS: usize = 8;
 
 pub const MOST_CONFIGURATIONS: usize = 64;
 
-// "spinning reserve W 0 to 50,000,000"; "power W 0 to 50,000,000"
+// "spinning reserve W 0 to 50,000,000"; "power W 0 to 50,000,000"; a cell "at most 50,000 kW"
 pub const MOST_POWER: u32 = 50_000_000;
 
 // "coverage % 0 to 100; minimum load % 0 to 100; shed % 0 to 100"; "efficiency % 1 to 100"
@@ -50,3 +50,16 @@ pub const MOST_POINTS: u32 = 5;
 pub const MOST_LOAD: u32 = 1_500;
 
 pub const MOST_RATE: u32 = 10_000_000;
+
+// "at most 512 bytes without the LF"
+pub const MOST_LINE: usize = 512;
+
+// "Time: 1 to 9 digits, at most 316,223,999"
+pub const MOST_TIME_DIGITS: usize = 9;
+
+pub const MOST_TIME: u32 = 316_223_999;
+
+// "Power in kW: 1 to 6 digits, then nothing or a point and 1 to 3 digits"
+pub const MOST_KW_DIGITS: usize = 6;
+
+pub const MOST_DECIMALS: usize = 3;

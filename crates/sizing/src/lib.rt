@@ -2,7 +2,7 @@
 ghost use mathlib.Core.Path.{_≡_};
 ghost use Prim.Native.Nat.{ℕ};
 ghost use Rattle.rules.specs.Answers.{refusalOf, verdictOf, amountOf};
-ghost use Rattle.rules.specs.Sizing.{stationCheck, shareAsked, rateAsked};
+ghost use Rattle.rules.specs.Sizing.{stationCheck, sampleCheck, shareAsked, rateAsked};
 ghost use Rattle.sizing.specs.Screen.{screenAnswer, screenVerdict};
 
 mod fuel;
@@ -11,6 +11,8 @@ mod share;
 use rules::answers::Amount;
 use rules::answers::Refusal;
 use rules::answers::Verdict;
+use samples::check::Checked;
+use samples::check::check_samples;
 use station::reader::read_station;
 use words::refusals::number_and_place;
 
@@ -63,6 +65,17 @@ pub extern "C" fn sizing_check_station(station: &[u8]) -> SizingAnswer
     let reading = read_station(station);
     let verdict = reading.verdict;
     judged(verdict)
+}
+
+// Whether a sample file is good.
+#[no_mangle]
+pub extern "C" fn sizing_check_samples(samples: &[u8]) -> SizingAnswer
+    ensures { λ r. ⌜ r ≡ screenVerdict (sampleCheck (now (samples .entry))) ⌝ }
+{
+    match check_samples(samples) {
+        Checked::Accepted(_) => judged(Verdict::Accepted),
+        Checked::Refused(refusal) => refused(refusal),
+    }
 }
 
 // The watts that a set takes of a power that the mask's sets share.

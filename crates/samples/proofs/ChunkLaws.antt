@@ -1,0 +1,55 @@
+-- How a file is cut into chunks changes nothing, of any calls that owe what the contracts of `feed` and `pull` say. Assumes nothing.
+use Prim.Native.Nat.{ℕ}
+use mathlib.Core.Path.{_≡_, refl, sym, ap, _∙_}
+use mathlib.Core.Bool.{true, false}
+use mathlib.Core.List.{List, [], _∷_, _++_}
+use lib.ListN.{length, drop}
+use lib.Seq.{drop-length}
+use Rattle.rules.specs.declared.samples.Sample.{Sample}
+use Rattle.rules.specs.Answers.{Answer, accepted, refused}
+use Rattle.samples.specs.declared.stage.Found.{Found}
+use Rattle.samples.specs.declared.reader.SampleReader.{SampleReader}
+use Rattle.samples.specs.declared.reader.Pulled.{Pulled}
+use Rattle.samples.specs.declared.check.SampleCheck.{SampleCheck}
+use Rattle.samples.specs.ToCome.{rowFirst}
+use Rattle.samples.specs.Streamed.{yetToCome, isRow, PulledRight, checkedWith}
+use Rattle.samples.specs.Chunks.{joined, Feeds, Pulls, leftAt, rowsThen}
+
+-- what a call of `feed` owes, in its contract's words
+abbrev pub FedRight : SampleCheck → List ℕ → SampleCheck → Type 0
+FedRight c chunk d = (rest : List ℕ) → checkedWith c (chunk ++ rest) ≡ checkedWith d rest
+
+pub feeds-right : {c last : SampleCheck} {chunks : List (List ℕ)} → Feeds FedRight c chunks last → checkedWith c (joined chunks) ≡ checkedWith last []
+unfolding joined
+feeds-right Feeds.none = refl
+feeds-right (Feeds.more {chunks = chunks} one rest) = one (joined chunks) ∙ feeds-right rest
+
+one-more : (x : Sample) (rows : List Sample) (a : Answer (List Sample)) → rowFirst (Found.Row x) (rowsThen rows a) ≡ rowsThen (x ∷ rows) a
+one-more x rows (accepted others) = refl
+one-more x rows (refused number place) = refl
+
+no-rows : (a : Answer (List Sample)) → a ≡ rowsThen [] a
+no-rows (accepted others) = refl
+no-rows (refused number place) = refl
+
+pub left-next : (chunks : List (List ℕ)) → joined chunks ≡ leftAt 0 chunks
+unfolding joined
+left-next [] = refl
+left-next (chunk ∷ chunks) = refl
+
+pub pulls-right : {m last : SampleReader} {at : ℕ} {chunks : List (List ℕ)} {rows : List Sample} → Pulls PulledRight m at chunks rows last
+    → yetToCome m (leftAt at chunks) ≡ rowsThen rows (yetToCome last [])
+pulls-right {m} Pulls.none = no-rows (yetToCome m [])
+pulls-right {last = last} (Pulls.row {chunk = chunk} {chunks = chunks} {rows = rows} p x one is rest) =
+    one .rows (joined chunks)
+    ∙ ap (λ (f : Found). rowFirst f (yetToCome (p .reader) (drop (p .next) chunk ++ joined chunks))) is
+    ∙ ap (rowFirst (Found.Row x)) (pulls-right rest)
+    ∙ one-more x rows (yetToCome last [])
+pulls-right {last = last} (Pulls.next {chunk = chunk} {chunks = chunks} {rows = rows} p one is rest) =
+    let e : p .next ≡ length chunk = one .exhausted (ap isRow is) in
+    let d : drop (p .next) chunk ++ joined chunks ≡ leftAt 0 chunks =
+    ap (λ (n : ℕ). drop n chunk ++ joined chunks) e ∙ ap (λ (l : List ℕ). l ++ joined chunks) (drop-length chunk) ∙ left-next chunks in
+    one .rows (joined chunks)
+    ∙ ap (λ (f : Found). rowFirst f (yetToCome (p .reader) (drop (p .next) chunk ++ joined chunks))) is
+    ∙ ap (yetToCome (p .reader)) d
+    ∙ pulls-right rest

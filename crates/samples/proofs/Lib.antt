@@ -1,0 +1,8 @@
+-- Laws of lines, stages and places, and the theorems over every list of chunks.
+pub mod LineLaws
+pub mod PlaceLaws
+pub mod StageLaws
+pub mod PlaceBound
+pub mod CheckLaws
+pub mod ChunkLaws
+pub mod Chunks

@@ -1,0 +1,165 @@
+-- A line takes each stage to the next: what was to come is the row that it gave, and then what is to come. Assumes nothing.
+use Prim.Native.Nat.{ℕ, suc, min, _≤_, _<_}
+use mathlib.Core.Path.{_≡_, refl, sym, ap, subst, _∙_}
+use mathlib.Core.Bool.{Bool, true, false}
+use mathlib.Core.List.{List, [], _∷_, map}
+use native.Mathlib.Omega.{arith}
+use lib.Dec.{leb, ltb, eqb}
+use borrow.Author.Tests.{lt-leb, eqb-true}
+use Rattle.rules.specs.declared.answers.Refusal.{Refusal}
+use Rattle.rules.specs.declared.samples.Sample.{Sample}
+use Rattle.rules.specs.Numbers.{if_then_else_}
+use Rattle.rules.specs.Answers.{Answer, accepted, refused, refusalOf, numberAndPlace, need, _>>=_, _>>_}
+use Rattle.rules.specs.Lines.{Line}
+use Rattle.rules.specs.SampleFile.{sampleSheet, headingLine, rowValues, timeIn, laterRows, rowsAfter, sheetLines, sampleOf}
+use Rattle.rules.proofs.Checks.{bound, same-value}
+use Rattle.sheet.specs.declared.headings.Columns.{Columns}
+use Rattle.sheet.specs.declared.headings.Headed.{Headed}
+use Rattle.sheet.specs.declared.rows.RowRead.{RowRead}
+use Rattle.samples.specs.declared.stage.Stage.{Stage}
+use Rattle.samples.specs.declared.stage.Found.{Found}
+use Rattle.samples.specs.declared.stage.Turn.{Turn}
+use Rattle.sheet.specs.Headings.{columnsOf, headedOf}
+use Rattle.sheet.specs.Rows.{rowOf, rowIn}
+use Rattle.samples.specs.ToCome.{mostPlace, placed, samplesOf, toCome, rowFirst, afterHeading, afterFirst, afterLater}
+use Rattle.samples.proofs.PlaceLaws.{refused-stays, row-place, heading-place, later-place}
+
+-- what a line gave, and then what is to come of the lines that are left
+abbrev after : Turn → List Line → Answer (List Sample)
+after t ls = rowFirst (t .found) (toCome (t .stage) ls)
+
+-- the line l is taken, and the lines ls are left
+abbrev Taken : Stage → Line → List Line → Turn → Type 0
+Taken stage l ls t = toCome stage (l ∷ ls) ≡ after t ls
+
+-- ---- the heading line
+
+pub heading-taken : (l : Line) (ls : List Line) (h : Headed) → headedOf h ≡ headingLine (sampleSheet .names) l → Taken Stage.Heading l ls (afterHeading h)
+unfolding toCome sheetLines
+heading-taken l ls (Headed.Found c) e = rw (← e)
+heading-taken l ls (Headed.Refused r) e =
+    let p : placed {A = List ℕ} (refusalOf r) ≡ refusalOf r = rw (← e) at (heading-place (sampleSheet .names) l) in
+    rw (← e) (refused-stays _ _ p)
+
+-- ---- rows
+
+-- a row that is refused gave no values
+no-values : {A B : Type 0} (a : Answer A) (f : A → B) (r : Refusal) → refusalOf r ≡ (a >>= λ (x : A). accepted (f x)) → a ≡ refusalOf r
+no-values (accepted a) f r e = absurd (let z : _≡_ {A = ℕ} 0 1 = cc in omega arith)
+no-values (refused number place) f r e = cc
+
+-- an accepted row stands before those after it
+row-before : (a : Answer (List (List ℕ))) (values : List ℕ)
+    → placed (samplesOf (a >>= λ (rows : List (List ℕ)). accepted (values ∷ rows))) ≡ rowFirst (Found.Row (sampleOf values)) (placed (samplesOf a))
+row-before (accepted rows) values = refl
+row-before (refused number place) values = refl
+
+row-skipped : (a : Answer (List (List ℕ))) → placed (samplesOf (a >>= λ (rows : List (List ℕ)). accepted rows)) ≡ placed (samplesOf a)
+row-skipped (accepted rows) = refl
+row-skipped (refused number place) = refl
+
+module _ (c : Columns) (l : Line) (ls : List Line) where
+  abbrev columns : List ℕ
+  columns = columnsOf c
+
+  first-values : (values : List ℕ) → rowValues sampleSheet columns 2 l ≡ accepted values → Taken (Stage.FirstRow c) l ls (afterFirst c (RowRead.Values (sampleOf values)))
+  unfolding toCome rowsAfter
+  first-values values e = rw e (go (eqb (timeIn values) 0) refl)
+    where
+      go : (b : Bool) → eqb (timeIn values) 0 ≡ b
+          → placed (samplesOf (need b 21 2 >> (laterRows sampleSheet columns 3 (timeIn values) ls >>= λ (rows : List (List ℕ)). accepted (values ∷ rows))))
+          ≡ after (if b then record { stage = Stage.LaterRows c 0 2; found = Found.Row (sampleOf values) } else record { stage = Stage.Refused (Refusal.FirstTime 2); found = Found.Nothing }) ls
+      go true z =
+          row-before (laterRows sampleSheet columns 3 (timeIn values) ls) values
+          ∙ ap (λ (t : ℕ). rowFirst (Found.Row (sampleOf values)) (placed (samplesOf (laterRows sampleSheet columns 3 t ls)))) (eqb-true (timeIn values) 0 z)
+      go false z = refl
+
+  pub first-taken : (r : RowRead) → rowOf r ≡ rowIn c 2 l → Taken (Stage.FirstRow c) l ls (afterFirst c r)
+  unfolding toCome rowsAfter
+  first-taken (RowRead.Values x) e =
+      let b = bound (rowValues sampleSheet columns 2 l) (λ (values : List ℕ). accepted (sampleOf values)) x (sym e) in
+      subst (λ (y : Sample). Taken (Stage.FirstRow c) l ls (afterFirst c (RowRead.Values y))) (same-value (sampleOf (b .0)) x (b .2)) (first-values (b .0) (b .1))
+  first-taken (RowRead.Refused r) e =
+      let n = no-values (rowValues sampleSheet columns 2 l) sampleOf r e in
+      let h : 2 ≤ mostPlace = omega arith in
+      rw n (refused-stays _ _ (rw n at (row-place sampleSheet columns 2 l h)))
+
+  -- ---- a later row
+
+  abbrev Later : ℕ → ℕ → Turn → Type 0
+  Later last line t = placed (samplesOf (laterRows sampleSheet columns line last (l ∷ ls))) ≡ after t ls
+
+  later-values : (last line : ℕ) (values : List ℕ) → rowValues sampleSheet columns line l ≡ accepted values → Later last line (afterLater c last line (RowRead.Values (sampleOf values)))
+  unfolding toCome laterRows
+  later-values last line values e = rw e (go (ltb last (timeIn values)))
+    where
+      go : (b : Bool)
+          → placed (samplesOf (laterRows sampleSheet columns (suc line) (if b then timeIn values else last) ls >>= λ (rows : List (List ℕ)). accepted (if b then values ∷ rows else rows)))
+          ≡ after (if b then record { stage = Stage.LaterRows c (timeIn values) line; found = Found.Row (sampleOf values) } else record { stage = Stage.LaterRows c last line; found = Found.Nothing }) ls
+      go true = row-before (laterRows sampleSheet columns (suc line) (timeIn values) ls) values
+      go false = row-skipped (laterRows sampleSheet columns (suc line) last ls)
+
+  later-read : (last line : ℕ) → line ≤ mostPlace → (r : RowRead) → rowOf r ≡ rowIn c line l → Later last line (afterLater c last line r)
+  unfolding toCome laterRows
+  later-read last line h (RowRead.Values x) e =
+      let b = bound (rowValues sampleSheet columns line l) (λ (values : List ℕ). accepted (sampleOf values)) x (sym e) in
+      subst (λ (y : Sample). Later last line (afterLater c last line (RowRead.Values y))) (same-value (sampleOf (b .0)) x (b .2)) (later-values last line (b .0) (b .1))
+  later-read last line h (RowRead.Refused r) e =
+      let n = no-values (rowValues sampleSheet columns line l) sampleOf r e in
+      rw n (refused-stays _ _ (rw n at (row-place sampleSheet columns line l h)))
+
+  -- the count of lines stops at the greatest place, which changes no answer
+  pub later-taken : (last lines line : ℕ) → line ≡ min (suc lines) mostPlace → (r : RowRead) → rowOf r ≡ rowIn c line l → Taken (Stage.LaterRows c last lines) l ls (afterLater c last line r)
+  unfolding toCome
+  later-taken last lines line is r e =
+      let m : min (suc lines) mostPlace ≡ min line mostPlace = omega arith in
+      let h : line ≤ mostPlace = omega arith in
+      samples-placed (laterRows sampleSheet columns (suc lines) last (l ∷ ls))
+      ∙ ap samplesOf (later-place sampleSheet columns (l ∷ ls) (suc lines) line last m)
+      ∙ sym (samples-placed (laterRows sampleSheet columns line last (l ∷ ls)))
+      ∙ later-read last line h r e
+    where
+      samples-placed : (a : Answer (List (List ℕ))) → placed (samplesOf a) ≡ samplesOf (placed a)
+      samples-placed (accepted rows) = refl
+      samples-placed (refused number place) = refl
+
+pub refused-taken : (r : Refusal) (l : Line) (ls : List Line) → Taken (Stage.Refused r) l ls (record { stage = Stage.Refused r; found = Found.Nothing })
+unfolding toCome
+refused-taken r l ls = refl
+
+-- ---- 11: whatever follows
+
+pub long-heading : (l : Line) (ls rest : List Line) → 512 < l .size → toCome Stage.Heading (l ∷ ls) ≡ toCome (Stage.Refused (Refusal.LineLength 1)) rest
+unfolding toCome sheetLines headingLine
+long-heading l ls rest h = rw (lt-leb (l .size) 512 h)
+
+pub long-first : (c : Columns) (l : Line) (ls rest : List Line) → 512 < l .size → toCome (Stage.FirstRow c) (l ∷ ls) ≡ toCome (Stage.Refused (Refusal.LineLength 2)) rest
+unfolding toCome rowsAfter rowValues
+long-first c l ls rest h = rw (lt-leb (l .size) 512 h)
+
+pub long-later : (c : Columns) (last lines : ℕ) (l : Line) (ls rest : List Line) (line : ℕ) → line ≡ min (suc lines) mostPlace → 512 < l .size
+    → toCome (Stage.LaterRows c last lines) (l ∷ ls) ≡ toCome (Stage.Refused (Refusal.LineLength line)) rest
+unfolding toCome laterRows rowValues
+long-later c last lines l ls rest line e h = rw (lt-leb (l .size) 512 h, e)
+
+pub long-refused : (r : Refusal) (l : Line) (ls rest : List Line) → toCome (Stage.Refused r) (l ∷ ls) ≡ toCome (Stage.Refused r) rest
+unfolding toCome
+long-refused r l ls rest = refl
+
+-- ---- the end of the file
+
+pub end-heading : refused 16 1 ≡ toCome Stage.Heading []
+unfolding toCome sheetLines
+end-heading = refl
+
+pub end-first : (c : Columns) → refused 22 0 ≡ toCome (Stage.FirstRow c) []
+unfolding toCome rowsAfter
+end-first c = refl
+
+pub end-later : (c : Columns) (last lines : ℕ) → accepted [] ≡ toCome (Stage.LaterRows c last lines) []
+unfolding toCome laterRows
+end-later c last lines = refl
+
+pub end-refused : (r : Refusal) → refusalOf r ≡ toCome (Stage.Refused r) []
+unfolding toCome
+end-refused r = refl

@@ -1,0 +1,21 @@
+-- `samples::check::check` meets its contract. Assumes nothing.
+use mathlib.Core.Path.{ap}
+use borrow.Author.Needs.{needs}
+use Rattle.samples.specs.Streamed.{spanned, checkedWith}
+use Rattle.samples.proofs.CheckLaws.{from-reader}
+use Rattle.samples.proofs.check.check.Statement.{statement}
+use Rattle.samples.proofs.check.check.Tie as tie
+use Rattle.samples.proofs.check.check.Reads as reads
+use Rattle.samples.proofs.check.check.Lts as lts
+use Rattle.samples.proofs.reader.reader.Reads as reader-reads
+
+-- src/check.rt:57:17
+reader-requires : tie.Need-reader-requires
+reader-requires c κs = search needs
+
+-- src/check.rt:53:1
+returns : tie.Need-returns
+returns c = λ rest. from-reader _ rest (c .reader .ensures rest)
+
+pub check-spec : {M : Type 1} → statement M
+check-spec = tie.close (tie.spec reader-requires returns)

@@ -1,0 +1,80 @@
+-- `samples::reader::end` meets its contract. Assumes nothing.
+use Prim.Native.Nat.{ℕ}
+use mathlib.Core.Path.{_≡_, sym, ap, _∙_}
+use mathlib.Core.List.{List, []}
+use native.Mathlib.Omega.{arith}
+use lib.ListN.{length, take, length-map, length-take}
+use borrow.Author.Needs.{needs}
+use Rattle.samples.specs.ToCome.{toCome}
+use Rattle.samples.specs.Streamed.{linesAfter, yetToCome}
+use Rattle.samples.proofs.LineLaws.{held-is, line-at-end, last-line}
+use Rattle.samples.proofs.reader.end.Statement.{statement}
+use Rattle.samples.proofs.reader.end.Tie as tie
+use Rattle.samples.proofs.reader.end.Reads as reads
+use Rattle.samples.proofs.reader.end.Lts as lts
+use Rattle.samples.proofs.reader.ended_at.Reads as ended-at-reads
+use Rattle.samples.proofs.reader.lesser.Reads as lesser-reads
+use Rattle.samples.proofs.stage.take_line.Reads as take-line-reads
+
+-- src/reader.rt:220:9
+lesser-requires : tie.Need-lesser-requires
+lesser-requires c κs = search needs
+
+-- src/reader.rt:222:9
+ended-at-requires : tie.Need-ended-at-requires
+ended-at-requires c κs = search needs
+
+-- src/reader.rt:222:9
+returns : tie.Need-returns
+unfolding yetToCome
+returns c =
+    let m = c .before .before .before .before .args .reader in
+    let size : length (m .line) ≡ 512 = simp length-map at (c .before .before .before .before .good .0 .1 .1 .0 .1 .0 .1) in
+    let held = held-is (m .line) [] (m .len) (c .before .before .lesser .result) size (c .before .before .lesser .ensures .2) in
+    let none = sym held ∙ ap (λ (n : ℕ). take n (m .line)) (c .before .if1 .taken) in
+    c .ended-at .ensures ∙ sym (ap (toCome (m .stage)) (ap (λ (s : List ℕ). linesAfter s []) none ∙ line-at-end []))
+
+-- src/reader.rt:227:36
+array-share-prefix-line : tie.Need-array-share-prefix-line
+array-share-prefix-line c =
+    let size : length (c .before .before .before .args .reader .line) ≡ 512 = simp length-map at (c .before .before .before .good .0 .1 .1 .0 .1 .0 .1) in
+    omega arith
+
+-- src/reader.rt:227:36
+slice-aggregate-take-line : tie.Need-slice-aggregate-take-line
+slice-aggregate-take-line c =
+    let size : length (c .before .before .before .before .args .reader .line) ≡ 512 = simp length-map at (c .before .before .before .before .good .0 .1 .1 .0 .1 .0 .1) in
+    simp length-take (omega arith)
+
+-- src/reader.rt:227:14
+take-line-requires : tie.Need-take-line-requires
+take-line-requires c κs = search needs
+
+-- src/reader.rt:227:5
+ended-at-requires-2 : tie.Need-ended-at-requires-2
+ended-at-requires-2 c κs = search needs
+
+-- src/reader.rt:215:1
+returns-2 : tie.Need-returns-2
+unfolding yetToCome
+returns-2 c =
+    let m = c .before .before .before .before .before .before .args .reader in
+    let n = c .before .before .before .before .lesser .result in
+    let size : length (m .line) ≡ 512 = simp length-map at (c .before .before .before .before .before .before .good .0 .1 .1 .0 .1 .0 .1) in
+    let held = held-is (m .line) [] (m .len) n size (c .before .before .before .before .lesser .ensures .2) in
+    let whole : length (take n (m .line)) ≡ n = simp length-take (omega arith) in
+    let last = last-line (take n (m .line)) n whole (omega arith) in
+    c .ended-at2 .ensures ∙ sym (c .before .take-line .ensures []) ∙ sym (ap (toCome (m .stage)) (ap (λ (s : List ℕ). linesAfter s []) (sym held) ∙ last))
+
+pub end-spec : {M : Type 1} → statement M
+end-spec =
+    tie.close
+    (tie.spec
+    lesser-requires
+    ended-at-requires
+    returns
+    array-share-prefix-line
+    slice-aggregate-take-line
+    take-line-requires
+    ended-at-requires-2
+    returns-2)

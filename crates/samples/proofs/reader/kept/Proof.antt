@@ -1,0 +1,46 @@
+-- `samples::reader::kept` meets its contract. Assumes nothing.
+use Prim.Native.Nat.{ℕ}
+use mathlib.Core.Path.{sym, ap, _∙_}
+use mathlib.Core.List.{List, _++_}
+use lib.ListN.{take}
+use borrow.Author.Tests.{leb-false}
+use borrow.Author.Needs.{needs}
+use Rattle.samples.specs.ToCome.{toCome}
+use Rattle.samples.specs.Streamed.{linesAfter, yetToCome}
+use Rattle.samples.proofs.LineLaws.{line-goes-on, long-line}
+use Rattle.samples.proofs.reader.kept.Statement.{statement}
+use Rattle.samples.proofs.reader.kept.Tie as tie
+use Rattle.samples.proofs.reader.kept.Reads as reads
+use Rattle.samples.proofs.reader.kept.Lts as lts
+use Rattle.samples.proofs.reader.extended_by.Reads as extended-by-reads
+use Rattle.samples.proofs.stage.too_long.Reads as too-long-reads
+
+-- src/reader.rt:133:9
+extended-by-requires : tie.Need-extended-by-requires
+extended-by-requires c κs = search needs
+
+-- src/reader.rt:136:9
+returns : tie.Need-returns
+unfolding yetToCome
+returns c =
+    let m = c .before .before .before .before .before .args .reader in
+    let s = c .before .before .before .before .before .args .more .now in
+    let whole = c .before .before .extended-by .ensures .1 .0 (c .if1 .taken) in
+    λ none rest. ap (toCome (m .stage)) (line-goes-on (take (m .len) (m .line)) s rest none ∙ ap (λ (l : List ℕ). linesAfter l rest) (sym whole))
+
+-- src/reader.rt:145:16
+too-long-requires : tie.Need-too-long-requires
+too-long-requires c κs = search needs
+
+-- src/reader.rt:128:1
+returns-2 : tie.Need-returns-2
+unfolding yetToCome
+returns-2 c =
+    let m = c .before .before .before .before .before .before .args .reader in
+    let s = c .before .before .before .before .before .before .args .more .now in
+    let begun = take (m .len) (m .line) in
+    let over = leb-false _ 512 (sym (c .before .before .before .extended-by .ensures .0) ∙ c .before .if1 .left) in
+    λ none rest. ap (toCome (m .stage)) (line-goes-on begun s rest none) ∙ long-line (m .stage) _ (begun ++ s) rest _ (c .too-long .ensures) over
+
+pub kept-spec : {M : Type 1} → statement M
+kept-spec = tie.close (tie.spec extended-by-requires returns too-long-requires returns-2)

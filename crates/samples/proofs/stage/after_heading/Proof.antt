@@ -1,0 +1,25 @@
+-- `samples::stage::after_heading` meets its contract. Assumes nothing.
+use borrow.Author.Needs.{needs}
+use Rattle.samples.proofs.stage.after_heading.Statement.{statement}
+use Rattle.samples.proofs.stage.after_heading.Tie as tie
+use Rattle.samples.proofs.stage.after_heading.Reads as reads
+use Rattle.samples.proofs.stage.after_heading.Lts as lts
+
+-- src/stage.rt:49:23
+enum-known-headed : tie.Need-enum-known-headed
+enum-known-headed c = search needs
+
+-- src/stage.rt:53:25
+enum-known-headed-2 : tie.Need-enum-known-headed-2
+enum-known-headed-2 c = search needs
+
+-- src/stage.rt:44:1
+returns : tie.Need-returns
+returns c = rw (c .before .headed .given .1)
+
+-- src/stage.rt:44:1
+returns-2 : tie.Need-returns-2
+returns-2 c = rw (c .before .headed2 .given .1)
+
+pub after-heading-spec : {M : Type 1} → statement M
+after-heading-spec = tie.close (tie.spec enum-known-headed enum-known-headed-2 returns returns-2)

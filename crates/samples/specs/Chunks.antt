@@ -1,0 +1,40 @@
+-- A file that comes in any list of chunks, empty ones included: the calls one after the other, of which only what `One` says is
+-- known. `proofs/Chunks.antt` has the theorems, and there `One` is what the function's own contract ensures.
+use Prim.Native.Nat.{ℕ}
+use mathlib.Core.Path.{_≡_}
+use mathlib.Core.List.{List, [], _∷_, _++_}
+use lib.ListN.{drop}
+use Rattle.rules.specs.declared.samples.Sample.{Sample}
+use Rattle.rules.specs.Answers.{Answer, accepted, refused}
+use Rattle.samples.specs.declared.stage.Found.{Found}
+use Rattle.samples.specs.declared.reader.SampleReader.{SampleReader}
+use Rattle.samples.specs.declared.reader.Pulled.{Pulled}
+use Rattle.samples.specs.declared.check.SampleCheck.{SampleCheck}
+
+-- the file: its chunks one after the other
+unfoldable pub joined : List (List ℕ) → List ℕ
+joined [] = []
+joined (chunk ∷ chunks) = chunk ++ joined chunks
+
+-- the chunks are fed one by one, from the first check to the last
+pub data Feeds (One : SampleCheck → List ℕ → SampleCheck → Type 0) : SampleCheck → List (List ℕ) → SampleCheck → Type 0 where
+  none : {c : SampleCheck} → Feeds One c [] c
+  more : {c d last : SampleCheck} {chunk : List ℕ} {chunks : List (List ℕ)} → One c chunk d → Feeds One d chunks last → Feeds One c (chunk ∷ chunks) last
+
+-- rows are pulled from a place of the first chunk on: after a row the same chunk is read on, and where there is none, the next one
+pub data Pulls (One : SampleReader → List ℕ → ℕ → Pulled → Type 0) : SampleReader → ℕ → List (List ℕ) → List Sample → SampleReader → Type 0 where
+  none : {m : SampleReader} {at : ℕ} → Pulls One m at [] [] m
+  row : {m last : SampleReader} {at : ℕ} {chunk : List ℕ} {chunks : List (List ℕ)} {rows : List Sample} (p : Pulled) (x : Sample)
+      → One m chunk at p → p .found ≡ Found.Row x → Pulls One (p .reader) (p .next) (chunk ∷ chunks) rows last → Pulls One m at (chunk ∷ chunks) (x ∷ rows) last
+  next : {m last : SampleReader} {at : ℕ} {chunk : List ℕ} {chunks : List (List ℕ)} {rows : List Sample} (p : Pulled)
+      → One m chunk at p → p .found ≡ Found.Nothing → Pulls One (p .reader) 0 chunks rows last → Pulls One m at (chunk ∷ chunks) rows last
+
+-- what is left of the file from a place of the first chunk on
+abbrev pub leftAt : ℕ → List (List ℕ) → List ℕ
+leftAt at [] = []
+leftAt at (chunk ∷ chunks) = drop at chunk ++ joined chunks
+
+-- rows that were pulled, and then the others
+abbrev pub rowsThen : List Sample → Answer (List Sample) → Answer (List Sample)
+rowsThen rows (accepted others) = accepted (rows ++ others)
+rowsThen rows (refused number place) = refused number place

@@ -1,0 +1,110 @@
+// The check of a sample file that comes in chunks of any length: all its rows are pulled, and counted.
+ghost use mathlib.Core.Path.{_≡_};
+ghost use Prim.Native.Nat.{ℕ};
+ghost use mathlib.Core.List.{List, [], _++_};
+ghost use Rattle.samples.specs.ToCome.{placed};
+ghost use Rattle.samples.specs.Streamed.{oneMore, sheetSpan, checkedWith, checkedOf, isRefused};
+use crate::reader::Ending;
+use crate::reader::SampleReader;
+use crate::reader::end;
+use crate::reader::pull;
+use crate::reader::reader;
+use crate::stage::Found;
+use crate::stage::Stage;
+use rules::answers::Refusal;
+
+// How many rows were accepted, and the time of the last.
+pub struct Span {
+    pub rows: u64,
+    pub last: u32,
+}
+
+pub struct SampleCheck {
+    pub(crate) reader: SampleReader,
+    pub(crate) span: Span,
+}
+
+pub enum Checked {
+    Accepted(Span),
+    Refused(Refusal),
+}
+
+fn counted(span: Span, found: Found) -> Span
+    ensures { λ r. ⌜ r ≡ oneMore span found ⌝ }
+{
+    match found {
+        Found::Nothing => span,
+        Found::Row(row) => {
+            let rows = span.rows;
+            let last = row.at;
+            if rows < u64::MAX {
+                return Span {
+                    rows: rows + 1,
+                    last,
+                };
+            }
+            Span { rows, last }
+        }
+    }
+}
+
+// A check of a file, from its first byte.
+pub fn check() -> SampleCheck
+    ensures { λ r. ⌜ ((rest : List ℕ) → checkedWith r rest ≡ placed (sheetSpan rest)) ⌝ }
+{
+    SampleCheck {
+        reader: reader(),
+        span: Span { rows: 0, last: 0 },
+    }
+}
+
+// The next bytes of the file.
+pub fn feed(check: SampleCheck, chunk: &[u8]) -> SampleCheck
+    ensures { λ r. ⌜ ((rest : List ℕ) → checkedWith check (now (chunk .entry) ++ rest) ≡ checkedWith r rest) ⌝ }
+{
+    let mut reader = check.reader;
+    let mut span = check.span;
+    let mut at = 0;
+    while at < chunk.len() {
+        let pulled = pull(reader, chunk, at);
+        let found = pulled.found;
+        reader = pulled.reader;
+        at = pulled.next;
+        span = counted(span, found);
+    }
+    SampleCheck { reader, span }
+}
+
+// The end of the file.
+pub fn finish(check: SampleCheck) -> Checked
+    ensures { λ r. ⌜ checkedOf r ≡ checkedWith check [] ⌝ }
+{
+    let reader = check.reader;
+    let span = check.span;
+    match end(reader) {
+        Ending::LastRow(row) => Checked::Accepted(counted(span, Found::Row(row))),
+        Ending::NoRow => Checked::Accepted(span),
+        Ending::Refused(refusal) => Checked::Refused(refusal),
+    }
+}
+
+// Whether a line was refused, so that the rest of the file needs no reading.
+pub fn is_refused(check: SampleCheck) -> bool
+    ensures { λ r. ⌜ r ≡ isRefused (check .reader .stage) ⌝ }
+{
+    let reader = check.reader;
+    let stage = reader.stage;
+    match stage {
+        Stage::Heading => false,
+        Stage::FirstRow(_) => false,
+        Stage::LaterRows(_, _, _) => false,
+        Stage::Refused(_) => true,
+    }
+}
+
+// A file that is there as a whole.
+pub fn check_samples(file: &[u8]) -> Checked
+    ensures { λ r. ⌜ checkedOf r ≡ sheetSpan (now (file .entry)) ⌝ }
+{
+    finish(feed(check(), file))
+}

@@ -1,0 +1,228 @@
+// The rows of a sample file that comes in chunks of any length: the reader goes in by value and comes back.
+ghost use mathlib.Core.Path.{_≡_};
+ghost use Prim.Native.Nat.{ℕ, _≤_, min};
+ghost use mathlib.Core.Bool.{true};
+ghost use mathlib.Core.List.{List, [], _∷_, _++_};
+ghost use lib.ListN.{length, take};
+ghost use lib.Dec.{leb};
+ghost use Rattle.bytes.specs.Bytes.{indexOf};
+ghost use Rattle.rules.specs.SampleFile.{sampleFile};
+ghost use Rattle.rules.specs.Bytes.{LF};
+ghost use Rattle.rules.specs.Lines.{Line, ended, withoutCR};
+ghost use Rattle.samples.specs.ToCome.{placed, toCome, rowFirst};
+ghost use Rattle.samples.specs.Streamed.{yetToCome, PulledRight, endingOf};
+use crate::stage::Found;
+use crate::stage::Stage;
+use crate::stage::Turn;
+use crate::stage::take_line;
+use crate::stage::too_long;
+use crate::stage::verdict_at;
+use rules::answers::Refusal;
+use rules::answers::Verdict;
+use rules::limits::MOST_LINE;
+use rules::samples::Sample;
+
+// The bytes of the line that has begun, and what the lines before it came to.
+pub struct SampleReader {
+    pub(crate) line: [u8; 512],
+    pub(crate) len: usize,
+    pub(crate) stage: Stage,
+}
+
+// A row, or nothing where the chunk has no further one; the chunk is to be read on at `next`.
+pub struct Pulled {
+    pub reader: SampleReader,
+    pub next: usize,
+    pub found: Found,
+}
+
+// What the end of the file gives: the row of a last line without LF, none, or the refusal.
+pub enum Ending {
+    LastRow(Sample),
+    NoRow,
+    Refused(Refusal),
+}
+
+// A line with more bytes after those that it had; `fits` is false where it is longer than a line may be.
+struct Extended {
+    line: [u8; 512],
+    len: usize,
+    fits: bool,
+}
+
+fn lesser(a: usize, b: usize) -> usize
+    ensures { λ r. ⌜ (r ≤ a) × (r ≤ b) × (r ≡ min a b) ⌝ }
+{
+    if a < b { a } else { b }
+}
+
+// "one CR just before it is dropped"
+fn without_cr(line: &[u8]) -> &[u8]
+    ensures { λ r. ⌜ now r ≡ withoutCR (now (line .entry)) ⌝ }
+{
+    let n = line.len();
+    if n == 0 {
+        return line;
+    }
+    if line[n - 1] == b'\r' {
+        return &line[..n - 1];
+    }
+    line
+}
+
+// A line that "ends at LF".
+fn ended_line(stage: Stage, line: &[u8]) -> Turn
+    ensures { λ r. ⌜ ((ls : List Line) → toCome stage (ended (now (line .entry)) ∷ ls) ≡ rowFirst (r .found) (toCome (r .stage) ls)) ⌝ }
+{
+    take_line(stage, line.len(), without_cr(line))
+}
+
+// The line's first `len` bytes and then `more`.
+fn extended_by(line: [u8; 512], len: usize, more: &[u8]) -> Extended
+    ensures { λ r. ⌜ r .fits ≡ leb (length (take len line ++ now (more .entry))) 512 ⌝ }
+    ensures { λ r. ⌜ (r .fits ≡ true → take (r .len) (r .line) ≡ take len line ++ now (more .entry)) × (r .len ≤ 512) × (length (r .line) ≡ 512) ⌝ }
+{
+    let held = lesser(len, MOST_LINE);
+    if MOST_LINE - held < more.len() {
+        return Extended {
+            line,
+            len: held,
+            fits: false,
+        };
+    }
+    let mut whole = line;
+    let mut i = 0;
+    while i < more.len() {
+        let at = held + i;
+        whole[at] = more[i];
+        i += 1;
+    }
+    Extended {
+        line: whole,
+        len: held + i,
+        fits: true,
+    }
+}
+
+// The line that had begun, ended by these bytes; the usual line lies whole in them, so that nothing is copied.
+fn joined_line(stage: Stage, line: &[u8; 512], len: usize, more: &[u8]) -> Turn
+    ensures { λ r. ⌜ ((ls : List Line) → toCome stage (ended (take len (now (line .entry)) ++ now (more .entry)) ∷ ls) ≡ rowFirst (r .found) (toCome (r .stage) ls)) ⌝ }
+{
+    if len == 0 {
+        return ended_line(stage, more);
+    }
+    let begun = *line;
+    let whole = extended_by(begun, len, more);
+    if !whole.fits {
+        return Turn {
+            stage: too_long(stage),
+            found: Found::Nothing,
+        };
+    }
+    let text = whole.line;
+    let end = whole.len;
+    ended_line(stage, &text[..end])
+}
+
+// A chunk's bytes after its last LF are kept, unless they make the line too long: then no byte of it is wanted any more.
+fn kept(reader: SampleReader, more: &[u8]) -> SampleReader
+    ensures { λ r. ⌜ (indexOf LF (now (more .entry)) ≡ length (now (more .entry)) → (rest : List ℕ) → yetToCome reader (now (more .entry) ++ rest) ≡ yetToCome r rest) ⌝ }
+{
+    let stage = reader.stage;
+    let line = reader.line;
+    let whole = extended_by(line, reader.len, more);
+    let text = whole.line;
+    if whole.fits {
+        return SampleReader {
+            line: text,
+            len: whole.len,
+            stage,
+        };
+    }
+    SampleReader {
+        line: text,
+        len: 0,
+        stage: too_long(stage),
+    }
+}
+
+// A reader of the rows of a file, from its first byte.
+pub fn reader() -> SampleReader
+    ensures { λ r. ⌜ ((rest : List ℕ) → yetToCome r rest ≡ placed (sampleFile rest)) ⌝ }
+{
+    SampleReader {
+        line: [0; 512],
+        len: 0,
+        stage: Stage::Heading,
+    }
+}
+
+// The next row out of the chunk, from a place on.
+pub fn pull(reader: SampleReader, chunk: &[u8], at: usize) -> Pulled
+    ensures { λ r. ⌜ PulledRight reader (now (chunk .entry)) at r ⌝ }
+{
+    let line = reader.line;
+    let mut len = reader.len;
+    let mut stage = reader.stage;
+    let mut next = lesser(at, chunk.len());
+    while next < chunk.len() {
+        let end = bytes::scan::find(chunk, next, chunk.len(), b'\n');
+        if chunk.len() <= end {
+            let before = SampleReader { line, len, stage };
+            return Pulled {
+                reader: kept(before, &chunk[next..]),
+                next: end,
+                found: Found::Nothing,
+            };
+        }
+        let turn = joined_line(stage, &line, len, &chunk[next..end]);
+        len = 0;
+        next = end + 1;
+        stage = turn.stage;
+        let found = turn.found;
+        let Found::Nothing = found else {
+            return Pulled {
+                reader: SampleReader { line, len, stage },
+                next,
+                found,
+            };
+        };
+    }
+    Pulled {
+        reader: SampleReader { line, len, stage },
+        next,
+        found: Found::Nothing,
+    }
+}
+
+// The end of the file after a line that gave this.
+fn ended_at(turn: Turn) -> Ending
+    ensures { λ r. ⌜ endingOf r ≡ rowFirst (turn .found) (toCome (turn .stage) []) ⌝ }
+{
+    let stage = turn.stage;
+    let verdict = verdict_at(stage);
+    if let Verdict::Refused(refusal) = verdict {
+        return Ending::Refused(refusal);
+    }
+    let found = turn.found;
+    match found {
+        Found::Row(row) => Ending::LastRow(row),
+        Found::Nothing => Ending::NoRow,
+    }
+}
+
+// The end of the file: "A line ends at LF .. or at the end of the file".
+pub fn end(reader: SampleReader) -> Ending
+    ensures { λ r. ⌜ endingOf r ≡ yetToCome reader [] ⌝ }
+{
+    let line = reader.line;
+    let stage = reader.stage;
+    let len = lesser(reader.len, MOST_LINE);
+    if len == 0 {
+        return ended_at(Turn {
+            stage,
+            found: Found::Nothing,
+        });
+    }
+    ended_at(take_line(stage, len, &line[..len]))
+}
