@@ -1,16 +1,17 @@
 /*
- * sizing.h: share of power, fuel rate and the check of a station file, for a sizing screen.
+ * sizing.h: share of power, fuel rate and the checks of a station file and of a sample file, for a sizing screen.
  *
  * A station file describes a power station: its control values, its battery, its 1 to 8 diesel sets and its 1 to 64
- * configurations (which sets may run together). The library works on the bytes of such a file. Read the file into memory and
- * lend those bytes to the calls; every call checks all of them itself, so no call has to come before another.
+ * configurations (which sets may run together). A sample file is a sheet of comma-separated lines: load, solar power and load that
+ * may be shed, at seconds that rise. The library works on the bytes of such a file. Read the file into memory and lend those bytes
+ * to the calls; every call checks all of them itself, so no call has to come before another.
  *
  * What holds for every call:
  *
  *   Safe for any input.  Any bytes, of any size, and any numbers get an answer. No input stops the program, and nothing outside
- *                        the station's bytes is read. The caller owes one thing: `station` points to `size` readable bytes.
- *                        They need no alignment. `station` may be NULL where `size` is 0.
- *   Nothing written.     The station's bytes are only read, and are not kept: they are the caller's again when the call returns.
+ *                        the file's bytes is read. The caller owes one thing: `station` or `samples` points to `size` readable
+ *                        bytes. They need no alignment. The pointer may be NULL where `size` is 0.
+ *   Nothing written.     The file's bytes are only read, and are not kept: they are the caller's again when the call returns.
  *                        There is no output buffer; the answer is returned by value.
  *   No state.            A call depends on its arguments alone and leaves nothing behind. Several threads may call at the same
  *                        time, on the same bytes too, as long as none of them changes the bytes during a call.
@@ -40,7 +41,7 @@ extern "C" {
  * What every call answers: accepted, with a value, or refused, with a number and a place. 24 bytes, returned by value.
  */
 typedef struct SizingAnswer {
-    uint64_t number; /* 0: accepted. Else the number of the refusal: 1 to 8, or 19 (below). */
+    uint64_t number; /* 0: accepted. Else the number of the refusal: 1 to 8, or 11 to 22 (below). */
     uint64_t place;  /* Where the fault is, counted from 1; 0 where the refusal has no place, and where number is 0. */
     uint64_t value;  /* The answer where number is 0: W for a share, mL/h for a fuel rate, 0 for a check. 0 where refused. */
 } SizingAnswer;
@@ -49,6 +50,13 @@ typedef struct SizingAnswer {
  * The numbers. A station file is judged in the order 1, 2, 3, 4, 5, then set by set 6 before 7, then 8, and the first fault is the
  * answer; so 7 of set 1 is answered where set 2 has a 6. Offsets below are those of the file's bytes; all its numbers are
  * little-endian.
+ *
+ * A sample file is judged line by line from the top, and the first fault is the answer. The heading line: 11, 16, then heading by
+ * heading 12, 13, 14, then 15. A row: 11, 17, then cell by cell in the file's order 18 before 19, then 20, then 21. Where all lines
+ * are in order: 22.
+ *
+ * A line of a sample file ends at LF or at the end of the file; a last LF starts no further line. One CR just before the LF is
+ * dropped; any other CR is part of its heading or cell, one at the end of the file too. An empty line is a line with one cell.
  */
 enum {
     /* Accepted: `value` holds the answer. Place 0. */
@@ -103,8 +111,54 @@ enum {
      */
     SIZING_BAD_MASK = 8,
 
-    /* Share and fuel rate only: the power asked for is above the capacity of the mask. Place 0. */
-    SIZING_POWER_TOO_HIGH = 19
+    /* A line of the sample file has more than 512 bytes without its LF; a CR before the LF counts. Place: the line, from 1. */
+    SIZING_LINE_TOO_LONG = 11,
+
+    /* A heading has no byte at all. Place: the line, which is 1. */
+    SIZING_HEADING_BLANK = 12,
+
+    /*
+     * A heading is none of `t`, `LoadP`, `PvAvailP` and `ShedLoadP`. They are compared byte for byte: case, spaces and quotes matter.
+     * Place: the line, which is 1.
+     */
+    SIZING_HEADING_UNKNOWN = 13,
+
+    /* A heading is given twice; `t` too. Place: the line, which is 1. */
+    SIZING_HEADING_TWICE = 14,
+
+    /* One of the four headings is missing. Place: the line, which is 1. */
+    SIZING_HEADING_MISSING = 15,
+
+    /*
+     * The first heading is not `t`: it is blank, or another, or has a byte order mark before it; or the file is empty. Place: the
+     * line, which is 1.
+     */
+    SIZING_FIRST_HEADING = 16,
+
+    /* A row has more or fewer cells than there are headings; an empty line is such a row. Place: the line. */
+    SIZING_CELL_COUNT = 17,
+
+    /*
+     * A cell is malformed, or blank. A time has 1 to 9 digits; a power, in kW, has 1 to 6 digits, then nothing or a point and 1 to 3
+     * digits. Leading zeros count as digits. Place: the line.
+     */
+    SIZING_CELL_MALFORMED = 18,
+
+    /*
+     * Sample check: a cell is over its limit, a time above 316,223,999 s or a power above 50,000 kW. Place: the line.
+     * Share and fuel rate: the power asked for is above the capacity of the mask. Place 0.
+     */
+    SIZING_POWER_TOO_HIGH = 19,
+    SIZING_OVER_LIMIT = 19,
+
+    /* A row's sheddable load is above its load. Place: the line. */
+    SIZING_SHEDDABLE_ABOVE_LOAD = 20,
+
+    /* The first row's time is not 0. Place: the line, which is 2. */
+    SIZING_FIRST_TIME = 21,
+
+    /* The heading line is in order and no row follows it. Place 0. */
+    SIZING_NO_ROW = 22
 };
 
 /*
@@ -146,6 +200,17 @@ SizingAnswer sizing_share(const uint8_t *station, size_t size, uint64_t mask, ui
  * too; 19 for the power.
  */
 SizingAnswer sizing_fuel_rate(const uint8_t *station, size_t size, uint64_t mask, uint64_t power);
+
+/*
+ * Checks the bytes of a sample file: a heading line and at least one row, whose first time is 0. A row whose time is not above that
+ * of the last row that was taken is checked like any other and then left out; it is no fault.
+ *
+ *   samples  the file's bytes, only read; may be NULL where size is 0
+ *   size     how many they are; any size
+ *
+ * Answers number 0 with value 0 for a good file, else the first fault, 11 to 22, with its line as the place (0 for 22).
+ */
+SizingAnswer sizing_check_samples(const uint8_t *samples, size_t size);
 
 #ifdef __cplusplus
 }

@@ -5,7 +5,7 @@ use std::io::{self, BufRead, Write};
 use crate::hex;
 use crate::refusal::Refusal;
 use crate::run::write_run;
-use crate::samples;
+use crate::samples::{self, Sample};
 use crate::sizing;
 use crate::station_file;
 use crate::text;
@@ -15,6 +15,7 @@ use crate::text;
 pub enum Kind {
     Stations,
     Samples,
+    Sheets,
     Runs,
     Seconds,
 }
@@ -24,6 +25,7 @@ impl Kind {
         match name {
             "stations" => Some(Kind::Stations),
             "samples" => Some(Kind::Samples),
+            "sheets" => Some(Kind::Sheets),
             "runs" => Some(Kind::Runs),
             "seconds" => Some(Kind::Seconds),
             _ => None,
@@ -50,6 +52,7 @@ pub fn answer_line(kind: Kind, line: &str) -> Option<String> {
     match kind {
         Kind::Stations => answer_station(line),
         Kind::Samples => Some(checked(samples::read(&hex::read(line)?))),
+        Kind::Sheets => Some(rows(samples::read(&hex::read(line)?))),
         Kind::Runs => answer_run(line),
         Kind::Seconds => Some(text::answer(&text::read_case(line)?)),
     }
@@ -61,6 +64,22 @@ pub fn checked<T>(outcome: Result<T, Refusal>) -> String {
         Ok(_) => "accepted".to_string(),
         Err(refusal) => refusal.to_string(),
     }
+}
+
+/// A sample file's accepted rows, skipped ones left out, or its refusal:
+/// `accepted`, how many they are, and each as `time:load:solar:sheddable`.
+pub fn rows(outcome: Result<Vec<Sample>, Refusal>) -> String {
+    let samples = match outcome {
+        Ok(samples) => samples,
+        Err(refusal) => return refusal.to_string(),
+    };
+    let mut text = format!("accepted {}", samples.len());
+    for sample in samples {
+        let (time, load) = (sample.time, sample.load);
+        let (solar, sheddable) = (sample.solar, sample.sheddable);
+        text.push_str(&format!(" {time}:{load}:{solar}:{sheddable}"));
+    }
+    text
 }
 
 /// A number or its refusal.

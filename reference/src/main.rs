@@ -17,7 +17,7 @@ const USAGE: &str = "how to call it:
   reference share STATION MASK POWER SET
   reference rate STATION MASK POWER
   reference second            (one case on standard input)
-  reference batch KIND        (stations, samples, runs or seconds; cases on standard input)";
+  reference batch KIND        (stations, samples, sheets, runs or seconds; cases on standard input)";
 
 fn main() -> ExitCode {
     let arguments: Vec<OsString> = std::env::args_os().skip(1).collect();

@@ -8,6 +8,7 @@ use std::os::unix::ffi::OsStrExt;
 use std::path::PathBuf;
 use std::process::{Command, Output, Stdio};
 
+use reference::hex;
 use station_a::{file, printed, SAMPLES};
 
 /// A file of this test run with these bytes.
@@ -27,9 +28,12 @@ fn stdout(output: &Output) -> String {
     String::from_utf8_lossy(&output.stdout).into_owned()
 }
 
-/// What a call prints whose standard input is a file; a pipe could fill up.
+/// What a call prints whose standard input is a file; a pipe could fill up. Tests
+/// run at the same time, each with a file of its own.
 fn fed(program: &str, arguments: &[&str], input: &[u8]) -> String {
-    let path = written("standard input", input);
+    let test = std::thread::current();
+    let name = format!("input of {}", test.name().expect("a test's name"));
+    let path = written(&name, input);
     let input = File::open(path).expect("the file just written");
     let mut call = Command::new(program);
     let output = call.args(arguments).stdin(Stdio::from(input)).output();
@@ -103,10 +107,34 @@ fn e4_file_checks_and_sizing_answers() {
 }
 
 #[test]
+fn sheets_are_answered_with_their_rows() {
+    let reference = env!("CARGO_BIN_EXE_reference");
+    let files: [&[u8]; 4] = [
+        SAMPLES,
+        b"t,ShedLoadP,LoadP,PvAvailP\n0,1.5,20,3.25\n0,0,0,0\n7,0,0.001,050000",
+        b"t,LoadP,PvAvailP,ShedLoadP\n0,1,1,2\n",
+        b"",
+    ];
+    let mut cases = files.map(hex::write).join("\n");
+    cases.push_str("\n0\n");
+    let expected =
+        "accepted 4 0:40000:10000:0 1:75000:10000:5000 2:75000:10000:5000 3:30000:40000:5000
+accepted 2 0:20000:3250:1500 7:1:50000000:0
+refused,20,2
+refused,16,1
+malformed
+";
+    assert_eq!(
+        fed(reference, &["batch", "sheets"], cases.as_bytes()),
+        expected
+    );
+}
+
+#[test]
 fn generated_cases_are_answered_line_by_line_and_alone() {
     let reference = env!("CARGO_BIN_EXE_reference");
     let generate = env!("CARGO_BIN_EXE_generate");
-    for kind in ["stations", "samples", "runs", "seconds"] {
+    for kind in ["stations", "samples", "sheets", "runs", "seconds"] {
         let cases = fed(generate, &[kind, "7", "40"], b"");
         assert_eq!(cases, fed(generate, &[kind, "7", "40"], b""));
         let answers = fed(reference, &["batch", kind], cases.as_bytes());

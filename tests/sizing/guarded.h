@@ -1,35 +1,24 @@
-/* The three calls of the library on a station that stands between pages that may not be touched. */
+/* Bytes lent to a call of a library, read-only and beside pages that may not be touched. */
 #ifndef GUARDED_H
 #define GUARDED_H
 
-#include <stdbool.h>
 #include <stddef.h>
 #include <stdint.h>
 
-#include "sizing.h"
+/* Where the page that may not be touched lies: just after the last byte that is lent, or just before the first. */
+typedef enum Side { AFTER, BEFORE, SIDES } Side;
 
-/* What a mask, a power and a set's number are asked of a station. */
-typedef struct Query {
-    uint64_t mask;
-    uint64_t power;
-    uint64_t set;
-} Query;
-
-/* The three answers of one case. */
-typedef struct Answers {
-    SizingAnswer check;
-    SizingAnswer share;
-    SizingAnswer rate;
-} Answers;
-
-/* Says what is wrong, with the case's name, when a call touches what it may not; called once, before the first ask. */
+/* Says what is wrong, with the case's name, when a call touches what it may not; called once, before the first bytes are lent. */
 void guarded_start(void);
 
 /*
- * Asks the library twice, once with the station's last byte just before a page that may not be touched and once with its first
- * byte just after one. False, with a message, where the two do not agree. `name` is the case's name in messages.
+ * Copies the bytes, of any number, to where they may be lent. They can be read there and not written, with a page that may not be
+ * touched on the side asked for, and one not far from the other side. What was lent before is gone.
  */
-bool guarded_ask(const char *name, const uint8_t *station, size_t size, Query query, Answers *answers);
+const uint8_t *guarded_lend(Side side, const uint8_t *bytes, size_t size);
+
+/* Says which call is under way, for the message where it touches what it may not. `name` is the case's name. */
+void guarded_note(const char *name, Side side, const char *call);
 
 /* Gives the pages back. */
 void guarded_end(void);

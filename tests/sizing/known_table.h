@@ -5,7 +5,7 @@
 #include <stddef.h>
 #include <stdint.h>
 
-#include "guarded.h"
+#include "ask.h"
 
 /* The stations that the cases start from; sizing_known.c builds all but the first, which is a file. */
 typedef enum Base {

@@ -1,16 +1,18 @@
 /*
- * sizing_known STATION-A: holds the library's answers against the table of known ones (known_table.h), each on a station between
- * pages that may not be touched. Prints how many answers hold, or the first that does not and exit status 1.
+ * sizing_known STATION-A: holds the library's answers against the tables of known ones (known_table.h, known_samples.h), each on a
+ * file beside pages that may not be touched. Prints how many answers hold, or the first that does not and exit status 1.
  */
 #include <inttypes.h>
 #include <stdio.h>
 #include <stdlib.h>
 #include <string.h>
 
+#include "ask.h"
 #include "guarded.h"
+#include "known_samples.h"
 #include "known_table.h"
 
-enum { WRONG = 1, NOT_READ = 2, LARGEST = 676, LONGEST = LARGEST + 100000 };
+enum { WRONG = 1, NOT_READ = 2, LARGEST = 676, LONGEST = LARGEST + 100000, LONGEST_SHEET = 4000000 };
 
 #define COUNT(table) (sizeof(table) / sizeof(table)[0])
 
@@ -22,7 +24,14 @@ typedef struct Station {
     uint8_t bytes[LONGEST];
 } Station;
 
+/* A sample file's bytes while it is put together. */
+typedef struct SampleFile {
+    size_t size;
+    uint8_t bytes[LONGEST_SHEET];
+} SampleFile;
+
 static Station bases[BASES];
+static SampleFile sample_file;
 static unsigned long held = 0;
 
 /* Puts a little-endian number. */
@@ -95,7 +104,7 @@ static void hold(const char *what, const char *call, SizingAnswer got, SizingAns
 static Answers ask(const char *what, const Station *station, Query query)
 {
     Answers answers;
-    if (!guarded_ask(what, station->bytes, station->size, query, &answers)) {
+    if (!ask_station(what, station->bytes, station->size, query, &answers)) {
         exit(WRONG);
     }
     return answers;
@@ -171,6 +180,78 @@ static void hold_questions(void)
     }
 }
 
+/* Puts bytes at the end of the sample file. */
+static void add(Bytes more)
+{
+    if (more.size > LONGEST_SHEET - sample_file.size) {
+        fprintf(stderr, "sizing_known: a sample file of the table is longer than there is room for\n");
+        exit(NOT_READ);
+    }
+    memcpy(sample_file.bytes + sample_file.size, more.text, more.size);
+    sample_file.size += more.size;
+}
+
+/* The check's answer for the sample file that was put together. */
+static void hold_sample_file(const char *what, uint64_t number, uint64_t place)
+{
+    SizingAnswer answer;
+    if (!ask_samples(what, sample_file.bytes, sample_file.size, &answer)) {
+        exit(WRONG);
+    }
+    hold(what, "check_samples", answer, (SizingAnswer){number, place, 0});
+}
+
+static void hold_sheets(void)
+{
+    for (size_t index = 0; index < COUNT(sheets); index++) {
+        sample_file.size = 0;
+        add(sheets[index].file);
+        hold_sample_file(sheets[index].what, sheets[index].number, sheets[index].place);
+    }
+    for (size_t index = 0; index < COUNT(long_sheets); index++) {
+        const LongSheet *row = &long_sheets[index];
+        sample_file.size = 0;
+        add(row->before);
+        for (size_t time = 0; time < row->times; time++) {
+            add(row->repeated);
+        }
+        add(row->after);
+        hold_sample_file(row->what, row->number, row->place);
+    }
+}
+
+/* One cell in one spot of a sheet. */
+static void hold_cell(const Spot *spot, const KnownCell *known)
+{
+    char what[128];
+    snprintf(what, sizeof what, "%s, the cell `%s`", spot->what, known->cell.text);
+    sample_file.size = 0;
+    add(spot->before);
+    add(known->cell);
+    add(spot->after);
+    hold_sample_file(what, known->number, known->number == 0 ? 0 : spot->line);
+}
+
+static void hold_cells(void)
+{
+    for (size_t spot = 0; spot < COUNT(power_spots); spot++) {
+        for (size_t cell = 0; cell < COUNT(powers); cell++) {
+            /* At the end of a line one CR before the LF is no part of the cell: the sheets have those cases. */
+            bool ends_in_cr = powers[cell].cell.size != 0 && powers[cell].cell.text[powers[cell].cell.size - 1] == '\r';
+            if (!ends_in_cr || power_spots[spot].after.size == 0 || power_spots[spot].after.text[0] != '\n') {
+                hold_cell(&power_spots[spot], &powers[cell]);
+            }
+        }
+    }
+    for (size_t spot = 0; spot < COUNT(time_spots); spot++) {
+        for (size_t cell = 0; cell < COUNT(times); cell++) {
+            if (spot != 0 || times[cell].number != 0) {
+                hold_cell(&time_spots[spot], &times[cell]);
+            }
+        }
+    }
+}
+
 int main(int count, char **arguments)
 {
     if (count != 2) {
@@ -187,7 +268,10 @@ int main(int count, char **arguments)
     hold_checks();
     hold_edges();
     hold_questions();
+    unsigned long of_stations = held;
+    hold_sheets();
+    hold_cells();
     guarded_end();
-    printf("%lu known answers hold\n", held);
+    printf("%lu known answers hold, %lu of them of sample files\n", held, held - of_stations);
     return EXIT_SUCCESS;
 }

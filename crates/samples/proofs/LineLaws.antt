@@ -258,6 +258,6 @@ pub ending-nothing : (found : Found) (v : Verdict) (a : Answer (List Sample)) �
 ending-nothing found v a f p e = rw (f, ← e, p)
 
 -- a last line without LF is a line
-pub last-line : (s : List ℕ) (n : ℕ) → length s ≡ n → 0 < n → linesAfter s [] ≡ record { size = n; text = s } ∷ []
-last-line [] n e h = absurd (omega arith)
-last-line (x ∷ s) n e h = line-at-end (x ∷ s) ∙ rw e
+pub last-line : (s : List ℕ) → 0 < length s → linesAfter s [] ≡ record { size = length s; text = s } ∷ []
+last-line [] h = absurd (omega arith)
+last-line (x ∷ s) h = line-at-end (x ∷ s)

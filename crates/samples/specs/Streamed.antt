@@ -7,7 +7,7 @@ use mathlib.Core.List.{List, [], _∷_, _++_}
 use lib.ListN.{length, take, drop}
 use Rattle.rules.specs.declared.samples.Sample.{Sample}
 use Rattle.rules.specs.Bytes.{LF, parts}
-use Rattle.rules.specs.Lines.{Line, linesOf}
+use Rattle.rules.specs.Lines.{Line, withoutCR, linesOf}
 use Rattle.rules.specs.Answers.{Answer, accepted, refused, refusalOf, _>>=_}
 use Rattle.rules.specs.SampleFile.{sampleFile}
 use Rattle.samples.specs.declared.stage.Stage.{Stage}
@@ -21,6 +21,11 @@ use Rattle.samples.specs.declared.check.Checked.{Checked}
 use Rattle.samples.specs.ToCome.{mostPlace, toCome, rowFirst}
 
 -- ---- lines
+
+-- "A line ends at LF (one CR just before it is dropped) or at the end of the file": its text
+abbrev pub textOf : Bool → List ℕ → List ℕ
+textOf true s = withoutCR s
+textOf false s = s
 
 -- bytes in front of the first part
 abbrev pub begunWith : List ℕ → List (List ℕ) → List (List ℕ)

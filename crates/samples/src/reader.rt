@@ -8,9 +8,9 @@ ghost use lib.Dec.{leb};
 ghost use Rattle.bytes.specs.Bytes.{indexOf};
 ghost use Rattle.rules.specs.SampleFile.{sampleFile};
 ghost use Rattle.rules.specs.Bytes.{LF};
-ghost use Rattle.rules.specs.Lines.{Line, ended, withoutCR};
+ghost use Rattle.rules.specs.Lines.{Line, ended as endedLine, withoutCR};
 ghost use Rattle.samples.specs.ToCome.{placed, toCome, rowFirst};
-ghost use Rattle.samples.specs.Streamed.{yetToCome, PulledRight, endingOf};
+ghost use Rattle.samples.specs.Streamed.{textOf, yetToCome, PulledRight, endingOf};
 use crate::stage::Found;
 use crate::stage::Stage;
 use crate::stage::Turn;
@@ -70,11 +70,21 @@ fn without_cr(line: &[u8]) -> &[u8]
     line
 }
 
-// A line that "ends at LF".
-fn ended_line(stage: Stage, line: &[u8]) -> Turn
-    ensures { λ r. ⌜ ((ls : List Line) → toCome stage (ended (now (line .entry)) ∷ ls) ≡ rowFirst (r .found) (toCome (r .stage) ls)) ⌝ }
+// "A line ends at LF (one CR just before it is dropped) or at the end of the file": its text.
+fn text_of(line: &[u8], ended: bool) -> &[u8]
+    ensures { λ r. ⌜ now r ≡ textOf ended (now (line .entry)) ⌝ }
 {
-    take_line(stage, line.len(), without_cr(line))
+    if ended {
+        return without_cr(line);
+    }
+    line
+}
+
+// A line that ends at LF, or at the end of the file.
+fn whole_line(stage: Stage, line: &[u8], ended: bool) -> Turn
+    ensures { λ r. ⌜ ((ls : List Line) → toCome stage (record { size = length (now (line .entry)); text = textOf ended (now (line .entry)) } ∷ ls) ≡ rowFirst (r .found) (toCome (r .stage) ls)) ⌝ }
+{
+    take_line(stage, line.len(), text_of(line, ended))
 }
 
 // The line's first `len` bytes and then `more`.
@@ -106,10 +116,10 @@ fn extended_by(line: [u8; 512], len: usize, more: &[u8]) -> Extended
 
 // The line that had begun, ended by these bytes; the usual line lies whole in them, so that nothing is copied.
 fn joined_line(stage: Stage, line: &[u8; 512], len: usize, more: &[u8]) -> Turn
-    ensures { λ r. ⌜ ((ls : List Line) → toCome stage (ended (take len (now (line .entry)) ++ now (more .entry)) ∷ ls) ≡ rowFirst (r .found) (toCome (r .stage) ls)) ⌝ }
+    ensures { λ r. ⌜ ((ls : List Line) → toCome stage (endedLine (take len (now (line .entry)) ++ now (more .entry)) ∷ ls) ≡ rowFirst (r .found) (toCome (r .stage) ls)) ⌝ }
 {
     if len == 0 {
-        return ended_line(stage, more);
+        return whole_line(stage, more, true);
     }
     let begun = *line;
     let whole = extended_by(begun, len, more);
@@ -121,7 +131,7 @@ fn joined_line(stage: Stage, line: &[u8; 512], len: usize, more: &[u8]) -> Turn
     }
     let text = whole.line;
     let end = whole.len;
-    ended_line(stage, &text[..end])
+    whole_line(stage, &text[..end], true)
 }
 
 // A chunk's bytes after its last LF are kept, unless they make the line too long: then no byte of it is wanted any more.
@@ -224,5 +234,5 @@ pub fn end(reader: SampleReader) -> Ending
             found: Found::Nothing,
         });
     }
-    ended_at(take_line(stage, len, &line[..len]))
+    ended_at(whole_line(stage, &line[..len], false))
 }

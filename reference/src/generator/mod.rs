@@ -13,6 +13,7 @@ pub mod sheet_damage;
 pub mod sizing_queries;
 pub mod station_damage;
 pub mod stations;
+pub mod varied_sheets;
 
 use std::io::{self, Write};
 
@@ -34,12 +35,13 @@ pub fn case(kind: Kind, random: &mut Random) -> String {
     match kind {
         Kind::Stations => stations::case(random),
         Kind::Samples => hex::write(&samples_file(random)),
+        Kind::Sheets => hex::write(&varied_sheets::file(random)),
         Kind::Runs => runs::case(random),
         Kind::Seconds => seconds::case(random),
     }
 }
 
-/// A sample file, good or damaged, half and half.
+/// A small sample file, good or damaged, half and half.
 fn samples_file(random: &mut Random) -> Vec<u8> {
     let sheet = good_samples::any(random);
     if random.chance(50) {

@@ -23,7 +23,7 @@ pub struct Sheet {
 impl Sheet {
     pub fn bytes(&self) -> Vec<u8> {
         let line = |line: &SheetLine| [&line.content(), line.ending].concat();
-        self.lines.iter().flat_map(line).collect()
+        self.lines.iter().map(line).collect::<Vec<_>>().concat()
     }
 
     /// The column of a heading, as the heading line has it.

@@ -32,6 +32,18 @@ pub fn damaged(random: &mut Random, mut sheet: Sheet) -> Vec<u8> {
     bytes
 }
 
+/// The bytes of a sheet after a fault in some row, so that all lines before it
+/// are read; now and then another byte somewhere, too.
+pub fn damaged_rows(random: &mut Random, mut sheet: Sheet) -> Vec<u8> {
+    let number = random.pick([11, 11, 17, 18, 18, 19, 20]);
+    damage(random, &mut sheet, number);
+    let mut bytes = sheet.bytes();
+    if random.chance(20) {
+        damage_byte(random, &mut bytes);
+    }
+    bytes
+}
+
 /// One fault, aimed at a refusal.
 fn damage(random: &mut Random, sheet: &mut Sheet, number: u8) {
     match number {

@@ -14,7 +14,7 @@ use Rattle.samples.proofs.reader.end.Reads as reads
 use Rattle.samples.proofs.reader.end.Lts as lts
 use Rattle.samples.proofs.reader.ended_at.Reads as ended-at-reads
 use Rattle.samples.proofs.reader.lesser.Reads as lesser-reads
-use Rattle.samples.proofs.stage.take_line.Reads as take-line-reads
+use Rattle.samples.proofs.reader.whole_line.Reads as whole-line-reads
 
 -- src/reader.rt:220:9
 lesser-requires : tie.Need-lesser-requires
@@ -41,14 +41,14 @@ array-share-prefix-line c =
     omega arith
 
 -- src/reader.rt:227:36
-slice-aggregate-take-line : tie.Need-slice-aggregate-take-line
-slice-aggregate-take-line c =
+slice-aggregate-whole-line : tie.Need-slice-aggregate-whole-line
+slice-aggregate-whole-line c =
     let size : length (c .before .before .before .before .args .reader .line) ≡ 512 = simp length-map at (c .before .before .before .before .good .0 .1 .1 .0 .1 .0 .1) in
     simp length-take (omega arith)
 
 -- src/reader.rt:227:14
-take-line-requires : tie.Need-take-line-requires
-take-line-requires c κs = search needs
+whole-line-requires : tie.Need-whole-line-requires
+whole-line-requires c κs = search needs
 
 -- src/reader.rt:227:5
 ended-at-requires-2 : tie.Need-ended-at-requires-2
@@ -63,8 +63,8 @@ returns-2 c =
     let size : length (m .line) ≡ 512 = simp length-map at (c .before .before .before .before .before .before .good .0 .1 .1 .0 .1 .0 .1) in
     let held = held-is (m .line) [] (m .len) n size (c .before .before .before .before .lesser .ensures .2) in
     let whole : length (take n (m .line)) ≡ n = simp length-take (omega arith) in
-    let last = last-line (take n (m .line)) n whole (omega arith) in
-    c .ended-at2 .ensures ∙ sym (c .before .take-line .ensures []) ∙ sym (ap (toCome (m .stage)) (ap (λ (s : List ℕ). linesAfter s []) (sym held) ∙ last))
+    let last = last-line (take n (m .line)) (omega arith) in
+    c .ended-at2 .ensures ∙ sym (c .before .whole-line .ensures []) ∙ sym (ap (toCome (m .stage)) (ap (λ (s : List ℕ). linesAfter s []) (sym held) ∙ last))
 
 pub end-spec : {M : Type 1} → statement M
 end-spec =
@@ -74,7 +74,7 @@ end-spec =
     ended-at-requires
     returns
     array-share-prefix-line
-    slice-aggregate-take-line
-    take-line-requires
+    slice-aggregate-whole-line
+    whole-line-requires
     ended-at-requires-2
     returns-2)

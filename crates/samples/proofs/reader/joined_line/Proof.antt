@@ -8,17 +8,17 @@ use Rattle.samples.proofs.reader.joined_line.Statement.{statement}
 use Rattle.samples.proofs.reader.joined_line.Tie as tie
 use Rattle.samples.proofs.reader.joined_line.Reads as reads
 use Rattle.samples.proofs.reader.joined_line.Lts as lts
-use Rattle.samples.proofs.reader.ended_line.Reads as ended-line-reads
+use Rattle.samples.proofs.reader.whole_line.Reads as whole-line-reads
 use Rattle.samples.proofs.reader.extended_by.Reads as extended-by-reads
 use Rattle.samples.proofs.stage.too_long.Reads as too-long-reads
 
 -- src/reader.rt:112:9
-ended-line-requires : tie.Need-ended-line-requires
-ended-line-requires c κs = search needs
+whole-line-requires : tie.Need-whole-line-requires
+whole-line-requires c κs = search needs
 
 -- src/reader.rt:112:9
 returns : tie.Need-returns
-returns c = λ ls. rw (c .before .if1 .taken) (c .ended-line .ensures ls)
+returns c = λ ls. rw (c .before .if1 .taken) (c .whole-line .ensures ls)
 
 -- src/reader.rt:115:9
 extended-by-requires : tie.Need-extended-by-requires
@@ -39,29 +39,29 @@ array-share-prefix-text : tie.Need-array-share-prefix-text
 array-share-prefix-text c = omega arith
 
 -- src/reader.rt:124:23
-slice-aggregate-ended-line : tie.Need-slice-aggregate-ended-line
-slice-aggregate-ended-line c = simp length-take (omega arith)
+slice-aggregate-whole-line : tie.Need-slice-aggregate-whole-line
+slice-aggregate-whole-line c = simp length-take (omega arith)
 
 -- src/reader.rt:124:5
-ended-line-requires-2 : tie.Need-ended-line-requires-2
-ended-line-requires-2 c κs = search needs
+whole-line-requires-2 : tie.Need-whole-line-requires-2
+whole-line-requires-2 c κs = search needs
 
 -- src/reader.rt:108:1
 returns-3 : tie.Need-returns-3
 returns-3 c =
     let whole = c .before .before .before .before .before .extended-by .ensures .1 .0 (not-false _ (c .before .before .before .if2 .left)) in
-    λ ls. rw (← whole) (c .ended-line2 .ensures ls)
+    λ ls. rw (← whole) (c .whole-line2 .ensures ls)
 
 pub joined-line-spec : {M : Type 1} → statement M
 joined-line-spec =
     tie.close
     (tie.spec
-    ended-line-requires
+    whole-line-requires
     returns
     extended-by-requires
     too-long-requires
     returns-2
     array-share-prefix-text
-    slice-aggregate-ended-line
-    ended-line-requires-2
+    slice-aggregate-whole-line
+    whole-line-requires-2
     returns-3)
