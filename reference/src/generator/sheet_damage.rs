@@ -1,5 +1,6 @@
-//! Faults of a sample file, aimed at each refusal 11 to 22, alone or several
-//! at once so that the order of checks matters.
+//! Faults of a small sample file, aimed at each refusal 11 to 22, alone or several
+//! at once so that the order of checks matters. A fault may turn out to be another
+//! one or none; the reader decides.
 
 use super::random::Random;
 use super::sheet::{Sheet, SheetLine};
@@ -28,18 +29,6 @@ pub fn damaged(random: &mut Random, mut sheet: Sheet) -> Vec<u8> {
                 b"t\n\n",
             ])
             .to_vec();
-    }
-    bytes
-}
-
-/// The bytes of a sheet after a fault in some row, so that all lines before it
-/// are read; now and then another byte somewhere, too.
-pub fn damaged_rows(random: &mut Random, mut sheet: Sheet) -> Vec<u8> {
-    let number = random.pick([11, 11, 17, 18, 18, 19, 20]);
-    damage(random, &mut sheet, number);
-    let mut bytes = sheet.bytes();
-    if random.chance(20) {
-        damage_byte(random, &mut bytes);
     }
     bytes
 }
@@ -74,7 +63,8 @@ fn any_row<'a>(random: &mut Random, sheet: &'a mut Sheet) -> Option<&'a mut Shee
     sheet.lines.get_mut(index)
 }
 
-/// Pads a line to 511 to 514 bytes, its ending as it is or another.
+/// Pads a line to 511 to 514 bytes or to 600 before its ending, and gives it
+/// another ending.
 fn lengthen_line(random: &mut Random, sheet: &mut Sheet) {
     let filling = random.pick([b'0', b'9', b' ', b',', b'x', 0, 0xff]);
     let length = random.pick([511, 512, 513, 513, 513, 514, 600]);
@@ -93,7 +83,7 @@ fn lengthen_line(random: &mut Random, sheet: &mut Sheet) {
     }
 }
 
-/// Fills the last cell's front, so that a number of zeros stays a number.
+/// Fills the last cell at its front.
 fn pad(line: &mut SheetLine, length: usize, filling: u8) {
     let lacking = length.saturating_sub(line.content().len());
     if let Some(last) = line.cells.last_mut() {
@@ -162,7 +152,7 @@ fn damage_first_heading(random: &mut Random, cells: &mut Vec<Vec<u8>>) {
     }
 }
 
-/// A cell more, a cell less, an empty line.
+/// A cell more, a cell less, no cell, an empty line.
 fn miscount_cells(random: &mut Random, sheet: &mut Sheet) {
     let choice = random.between(0, 4);
     if choice == 0 {
@@ -198,6 +188,7 @@ fn replace_cell(
     }
 }
 
+/// A malformed cell; one with a comma is two, and a last CR may be its line's.
 fn malformed_cell(random: &mut Random, time: bool) -> &'static [u8] {
     if time && random.chance(50) {
         return random.pick([
@@ -238,6 +229,7 @@ fn malformed_cell(random: &mut Random, time: bool) -> &'static [u8] {
     ])
 }
 
+/// A value over its limit, or just at it.
 fn cell_over_limit(random: &mut Random, time: bool) -> &'static [u8] {
     if time {
         return random.pick([b"316224000".as_slice(), b"999999999", b"316223999"]);
@@ -289,7 +281,8 @@ fn start_late(random: &mut Random, sheet: &mut Sheet) {
     }
 }
 
-/// The heading line alone, with or without an ending.
+/// The heading line alone, with or without an ending; or with an empty line after
+/// it, or with a CR that no LF follows.
 fn drop_rows(random: &mut Random, sheet: &mut Sheet) {
     sheet.lines.truncate(1);
     if let Some(line) = sheet.lines.first_mut() {

@@ -1,147 +1,250 @@
-//! Sample files of many sizes, for a reader that is fed in pieces: small ones,
-//! ones with a line that ends at a piece's end or beside it, very many short
-//! lines, and a few files longer than the largest piece.
+//! Sample files of all sizes, for a reader that takes a file in pieces: each class
+//! of sizes has a fixed share of the cases. Long files are few, so that many cases
+//! can be read in a short time.
 
-use super::good_samples;
+use super::growing_sheet::{GrowingSheet, Style};
 use super::random::Random;
-use super::samples_file;
-use super::sheet::{Sheet, SheetLine};
-use super::sheet_damage;
+use super::sheet_faults;
+use super::{exact_rows, samples_file};
+use crate::refusal::Refusal;
 use crate::samples::Sample;
 
-/// Where pieces of some usual sizes end.
-const BOUNDARIES: [usize; 8] = [512, 512, 513, 1_024, 4_096, 4_096, 4_096, 8_192];
+/// The classes of sizes.
+#[derive(Clone, Copy, Debug, PartialEq, Eq, PartialOrd, Ord)]
+pub enum Class {
+    /// Past 65,536 bytes, mostly with a line that ends there or beside it.
+    Past65536,
+    /// Some ten thousand short lines.
+    TenThousandLines,
+    /// Many short lines, up to two thousand.
+    ManyLines,
+    /// Past one or two multiples of 4,096 bytes, as above.
+    Past4096,
+    /// Past one to three multiples of 512 bytes, as above.
+    Past512,
+    /// With a line of about 512 bytes; no such line is good.
+    LongLine,
+    /// A heading line and some rows.
+    Small,
+}
 
-/// Where the largest pieces end.
-const FAR_BOUNDARIES: [usize; 4] = [65_536, 65_536, 65_536, 131_072];
+/// How many of each `CYCLE` cases in a row a class has.
+pub const SHARES: [(Class, u64); 7] = [
+    (Class::Past65536, 2),
+    (Class::TenThousandLines, 1),
+    (Class::ManyLines, 6),
+    (Class::Past4096, 16),
+    (Class::Past512, 60),
+    (Class::LongLine, 60),
+    (Class::Small, 355),
+];
 
-/// Most digits of a time, and of the whole kW of a power.
-const TIME_DIGITS: usize = 9;
-const POWER_DIGITS: usize = 6;
+/// The sum of the shares.
+pub const CYCLE: u64 = 500;
 
-/// A sample file of any of the sizes, good or damaged, half and half. Long ones
-/// are few, so that many cases can be fed byte by byte.
-pub fn file(random: &mut Random) -> Vec<u8> {
-    let mut sheet = match random.between(0, 9_999) {
-        0..=9_234 => return samples_file(random),
-        9_235..=9_834 => {
-            let boundary = random.pick(BOUNDARIES);
-            past(random, boundary)
+/// Has no divisor in common with `CYCLE`: steps of so many meet every case of a
+/// cycle once, and those of a class lie apart.
+const STRIDE: u64 = 309;
+
+/// A file, and the answer that it was made for where that is known: the accepted
+/// rows or the refusal.
+pub struct Made {
+    pub bytes: Vec<u8>,
+    pub answer: Option<Result<Vec<Sample>, Refusal>>,
+}
+
+/// The file of the case that has so many cases before it.
+pub fn file(random: &mut Random, before: u64) -> Vec<u8> {
+    made(random, class(before)).bytes
+}
+
+/// The class of the case that has so many cases before it.
+pub fn class(before: u64) -> Class {
+    let mut left = before % CYCLE * STRIDE % CYCLE;
+    for (class, share) in SHARES {
+        if left < share {
+            return class;
         }
-        9_835..=9_984 => short_lines(random),
-        _ => {
-            let boundary = random.pick(FAR_BOUNDARIES);
-            past(random, boundary)
-        }
-    };
-    if let (true, Some(last)) = (random.chance(40), sheet.lines.last_mut()) {
-        last.ending = b"";
+        left -= share;
     }
+    Class::Small
+}
+
+/// A file of a class, good or damaged.
+pub fn made(random: &mut Random, class: Class) -> Made {
+    match class {
+        Class::Past65536 => {
+            let pieces = random.pick([1, 1, 1, 2]);
+            past(random, 65_536, pieces)
+        }
+        Class::TenThousandLines => {
+            let rows = random.between(9_000, 12_000);
+            short_rows(random, rows)
+        }
+        Class::ManyLines => {
+            let most = random.pick([125, 250, 500, 1_000, 2_000]);
+            let rows = random.between(most / 2, most);
+            short_rows(random, rows)
+        }
+        Class::Past4096 => {
+            let pieces = random.pick([1, 1, 1, 2]);
+            past(random, 4_096, pieces)
+        }
+        Class::Past512 => {
+            let pieces = random.pick([1, 1, 2, 3]);
+            past(random, 512, pieces)
+        }
+        Class::LongLine => long_line(random),
+        Class::Small => Made {
+            bytes: samples_file(random),
+            answer: None,
+        },
+    }
+}
+
+fn style(random: &mut Random, longest_row: usize) -> Style {
+    Style {
+        longest_row,
+        rise_percent: random.pick([0, 1, 30, 90, 100]),
+        longest_step: random.pick([1, 1, 20, 30_000]),
+    }
+}
+
+/// Where a line is to end for the sake of a multiple: there, up to three bytes
+/// beside it, or further on so that the line lies across it.
+fn beside(random: &mut Random, multiple: usize) -> usize {
+    match random.chance(80) {
+        true => multiple + 3 - random.index(7),
+        false => multiple + random.index(40),
+    }
+}
+
+/// A file that goes on past so many multiples of a length, or ends at the last.
+fn past(random: &mut Random, length: usize, multiples: usize) -> Made {
+    let longest_row = random.pick([8, 20, 42]);
+    let style = style(random, longest_row);
+    let mut growing = GrowingSheet::new(random, style);
+    let more_rows = random.pick([0, 0, 0, 1, 2, 20]);
+    for multiple in 1..=multiples {
+        let size = beside(random, length * multiple);
+        let ends_the_file = multiple == multiples && more_rows == 0;
+        let without_lf = ends_the_file && random.chance(50);
+        growing.grow_to(random, size, without_lf);
+    }
+    growing.add_rows(random, more_rows);
+    if more_rows > 0 && random.chance(50) {
+        growing.end_without_lf();
+    }
+    good_or_damaged(random, growing, length)
+}
+
+/// A file of very many rows that are as short as rows can be, or nearly.
+fn short_rows(random: &mut Random, rows: u64) -> Made {
+    let longest_row = exact_rows::shortest(0) + random.pick([0, 0, 1, 3]);
+    let style = style(random, longest_row);
+    let mut growing = GrowingSheet::new(random, style);
+    growing.add_rows(random, rows);
     if random.chance(50) {
-        sheet.bytes()
-    } else {
-        sheet_damage::damaged_rows(random, sheet)
+        growing.end_without_lf();
     }
+    good_or_damaged(random, growing, 4_096)
 }
 
-/// A good sheet that goes on past a boundary, mostly with a line that ends just
-/// there or up to three bytes beside it.
-fn past(random: &mut Random, boundary: usize) -> Sheet {
-    let length = boundary + random.pick([0, 1, 40, 600, 2_000]);
-    // Rows have some twenty bytes and more, so these reach the length.
-    let rows = length / 18 + 2;
-    let rising = random.chance(70);
-    let mut samples = vec![Sample::default()];
-    for row in 1..rows {
-        let time = match rising {
-            true => row as u64,
-            false => random.between(0, 40),
-        };
-        samples.push(any_row(random, time));
-    }
-    let mut sheet = good_samples::sheet(random, &samples);
-    keep(&mut sheet, length);
-    if random.chance(80) {
-        let end = boundary + 3 - random.index(7);
-        end_a_line(&mut sheet, end);
-    }
-    sheet
-}
-
-/// A row of small powers or of any.
-fn any_row(random: &mut Random, time: u64) -> Sample {
-    let most = random.pick([9_000, 999_999, 50_000_000]);
-    let load = random.between(0, most);
-    Sample {
-        time,
-        load,
-        solar: random.between(0, most),
-        sheddable: random.between(0, load),
-    }
-}
-
-/// Takes away the lines that begin at a length or after it.
-fn keep(sheet: &mut Sheet, length: usize) {
-    let mut begin = 0;
-    let lines = sheet.lines.iter();
-    let kept = lines
-        .take_while(|line| {
-            let kept = begin < length;
-            begin += size(line);
-            kept
-        })
-        .count();
-    sheet.lines.truncate(kept);
-}
-
-/// How many bytes a line has, its commas and its ending counted.
-fn size(line: &SheetLine) -> usize {
-    let cells: usize = line.cells.iter().map(Vec::len).sum();
-    cells + line.cells.len().saturating_sub(1) + line.ending.len()
-}
-
-/// Puts leading zeros before cells, from the top, until some line's ending ends
-/// before the byte `end`; as far as the digits allow.
-fn end_a_line(sheet: &mut Sheet, end: usize) {
-    // The last line that ends by then; the lines up to it are to grow.
-    let (mut grown, mut length) = (0, 0);
-    for line in &sheet.lines {
-        if length + size(line) > end {
-            break;
-        }
-        length += size(line);
-        grown += 1;
-    }
-    let mut lacking = end - length;
-    let rows = sheet.lines.iter_mut().take(grown).skip(1);
-    for (at, cell) in rows.flat_map(|line| line.cells.iter_mut().enumerate()) {
-        let most = if at == 0 { TIME_DIGITS } else { POWER_DIGITS };
-        let digits = cell.iter().take_while(|byte| **byte != b'.').count();
-        let zeros = lacking.min(most.saturating_sub(digits));
-        cell.splice(0..0, std::iter::repeat_n(b'0', zeros));
-        lacking -= zeros;
-    }
-}
-
-/// Very many rows as short as a row can be, with times that rise now and then;
-/// most of the rows are skipped.
-fn short_lines(random: &mut Random) -> Sheet {
-    let rows = random.between(300, 1_200);
-    let rise_percent = random.pick([0, 1, 30]);
-    let mut sheet = good_samples::sheet(random, &[]);
-    let ending: &[u8] = random.pick([b"\n".as_slice(), b"\r\n"]);
-    if let Some(headings) = sheet.lines.first_mut() {
-        headings.ending = ending;
-    }
-    let mut time = b'0';
-    for _ in 0..rows {
-        let powers = [b'9'; 3].map(|power| vec![power]);
-        let mut cells = vec![vec![time]];
-        cells.extend(powers);
-        sheet.lines.push(SheetLine { cells, ending });
-        if random.chance(rise_percent) && time < b'9' {
-            time += 1;
+/// A file as it is, or with a fault, or with another byte somewhere.
+fn good_or_damaged(random: &mut Random, growing: GrowingSheet, length: usize) -> Made {
+    match random.between(0, 99) {
+        0..=49 => Made {
+            bytes: growing.sheet.bytes(),
+            answer: Some(Ok(growing.accepted)),
+        },
+        50..=91 => faulty(random, growing),
+        _ => {
+            let mut bytes = growing.sheet.bytes();
+            change_byte(random, &mut bytes, length);
+            Made {
+                bytes,
+                answer: None,
+            }
         }
     }
-    sheet
+}
+
+/// A file with one fault, mostly in a row so that all lines before it are read;
+/// now and then with another fault in a later line, which is not met.
+fn faulty(random: &mut Random, mut growing: GrowingSheet) -> Made {
+    let index = row_index(random, &growing);
+    let lines = growing.sheet.lines.len();
+    if index + 1 < lines && random.chance(30) {
+        let later = index + 1 + random.index(lines - index - 1);
+        let number = random.pick([11, 17, 18, 19]);
+        sheet_faults::put(random, &mut growing.sheet, number, later);
+    }
+    let number = match random.chance(85) {
+        true => random.pick([11, 17, 18, 18, 19, 20]),
+        false => random.pick([12, 13, 14, 15, 16, 21, 22]),
+    };
+    let refusal = sheet_faults::put(random, &mut growing.sheet, number, index);
+    Made {
+        bytes: growing.sheet.bytes(),
+        answer: Some(Err(refusal)),
+    }
+}
+
+/// The index of a row's line: one that was placed or the one after it, the last,
+/// the first, or any.
+fn row_index(random: &mut Random, growing: &GrowingSheet) -> usize {
+    let last = growing.sheet.lines.len() - 1;
+    let placed = &growing.placed;
+    match random.between(0, 9) {
+        0..=3 if !placed.is_empty() => {
+            let index = placed[random.index(placed.len())];
+            (index + random.index(2)).min(last)
+        }
+        4 | 5 => last,
+        6 => 1,
+        _ => 1 + random.index(last),
+    }
+}
+
+/// Puts another byte in, or in place of one, anywhere or beside a multiple.
+fn change_byte(random: &mut Random, bytes: &mut Vec<u8>, length: usize) {
+    let anywhere = random.index(bytes.len());
+    let beside = (length + 2 - random.index(5)).min(bytes.len() - 1);
+    let at = random.pick([anywhere, beside]);
+    let byte = random.pick([0, 0x80, 0xff, b'\r', b'\n', b'\n', b',', b'.', b'0', b' ']);
+    match random.chance(50) {
+        true => bytes[at] = byte,
+        false => bytes.insert(at, byte),
+    }
+}
+
+/// A file with a line of about 512 bytes, with CR or without, at any place: it is
+/// too long or wrong in another way.
+fn long_line(random: &mut Random) -> Made {
+    let style = style(random, exact_rows::LONGEST);
+    let mut growing = GrowingSheet::new(random, style);
+    match random.between(0, 3) {
+        0 => {
+            let size = beside(random, 512);
+            growing.grow_to(random, size, false);
+        }
+        _ => {
+            let rows = random.between(0, 6);
+            growing.add_rows(random, rows);
+        }
+    }
+    // Often the last line, where the end of the file may end it.
+    let mut index = growing.sheet.lines.len() - 1;
+    if random.chance(30) {
+        index = random.index(index + 1);
+    }
+    let whole = match random.chance(1) {
+        true => random.pick([4_096, 65_535, 65_536, 65_537]),
+        false => random.pick([510, 511, 511, 512, 512, 512, 513, 513, 513, 514, 1_024]),
+    };
+    let refusal = sheet_faults::lengthen(random, &mut growing.sheet, index, whole);
+    Made {
+        bytes: growing.sheet.bytes(),
+        answer: Some(Err(refusal)),
+    }
 }

@@ -1,0 +1,112 @@
+// The headings or cells of a line by their places, counted from 0, with the functions that the check itself uses.
+ghost use Prim.Native.Nat.{_≤_};
+use sheet::cells::cell_at;
+use sheet::headings::name_of;
+use sheet::numbers::CellValue;
+use sheet::numbers::cell_under;
+
+// One byte more than a line may have: who has that many needs no more to know that it is too long.
+pub const MOST_HELD: usize = 513;
+
+// What `name_of` answers for a heading that is none of the four names.
+pub(crate) const NO_NAME: u8 = 4;
+
+// Where a cell starts; past the line's end where the line has no such cell.
+fn start_of(line: &[u8], place: usize) -> usize {
+    let mut at = 0;
+    let mut left = place;
+    while 0 < left {
+        let end = bytes::scan::find(line, at, line.len(), b',');
+        if line.len() <= end {
+            return usize::MAX;
+        }
+        at = end + 1;
+        left -= 1;
+    }
+    at
+}
+
+// The heading or cell at a place, nothing where the line has none there.
+pub(crate) fn part_at(line: &[u8], place: usize) -> &[u8] {
+    cell_at(line, start_of(line, place))
+}
+
+fn is_comma(byte: u8) -> usize
+    ensures { λ r. ⌜ r ≤ 1 ⌝ }
+{
+    if byte == b',' { 1 } else { 0 }
+}
+
+// How many headings or cells a line has: an empty line has one, which is blank.
+pub(crate) fn parts_of(line: &[u8]) -> usize {
+    let mut count = 1;
+    let mut i = 0;
+    while i < line.len() {
+        if MOST_HELD <= i {
+            return count;
+        }
+        count += is_comma(line[i]);
+        i += 1;
+    }
+    count
+}
+
+// The name of the column at a place, by its place among the names.
+pub(crate) fn name_at(headings: &[u8], place: usize) -> u8 {
+    name_of(part_at(headings, place))
+}
+
+// The first column that has this name; the number of columns where none has it.
+pub(crate) fn column_of(headings: &[u8], name: u8) -> usize {
+    let columns = parts_of(headings);
+    let mut i = 0;
+    while i < columns {
+        if name_at(headings, i) == name {
+            return i;
+        }
+        i += 1;
+    }
+    columns
+}
+
+fn is_malformed(value: CellValue) -> bool {
+    match value {
+        CellValue::Value(_) => false,
+        CellValue::Malformed => true,
+        CellValue::OverLimit => false,
+    }
+}
+
+fn is_over_limit(value: CellValue) -> bool {
+    match value {
+        CellValue::Value(_) => false,
+        CellValue::Malformed => false,
+        CellValue::OverLimit => true,
+    }
+}
+
+// Whether the heading or cell at a place has the fault of this number: 12, 13, 14, 18 or 19.
+fn has_fault(number: u64, headings: &[u8], line: &[u8], place: usize) -> bool {
+    let part = part_at(line, place);
+    match number {
+        12 => part.len() == 0,
+        13 => name_of(part) == NO_NAME,
+        14 => column_of(line, name_of(part)) < place,
+        18 => is_malformed(cell_under(name_at(headings, place), part)),
+        19 => is_over_limit(cell_under(name_at(headings, place), part)),
+        _ => false,
+    }
+}
+
+// The first heading or cell that has the fault; the number of them where none has it.
+pub(crate) fn first_fault(number: u64, headings: &[u8], line: &[u8]) -> usize {
+    let parts = parts_of(line);
+    let mut i = 0;
+    while i < parts {
+        if has_fault(number, headings, line, i) {
+            return i;
+        }
+        i += 1;
+    }
+    parts
+}
