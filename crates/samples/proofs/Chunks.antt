@@ -3,7 +3,7 @@
 -- All that is known of a call is what the function's own contract ensures. Assumes nothing.
 use Prim.Native.Nat.{ℕ, _≤_}
 use mathlib.Core.Path.{_≡_, sym, ap, _∙_}
-use mathlib.Core.List.{List, [], _∷_, _++_}
+use mathlib.Core.List.{List, [], _++_}
 use lib.ListN.{length}
 use borrow.Fn.Kinds as kinds
 use contract.Lifetimes.{Lfts}

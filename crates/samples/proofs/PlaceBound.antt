@@ -1,17 +1,16 @@
 -- A file has no more lines than bytes, so that the place of its refusal is one that 64 bits hold. Assumes nothing.
-use Prim.Native.Nat.{ℕ, suc, min, _+_, _≤_, zero-le}
-use mathlib.Core.Path.{_≡_, refl, ap, _∙_}
+use Prim.Native.Nat.{ℕ, suc, _+_, _≤_, zero-le}
+use mathlib.Core.Path.{_≡_, refl}
 use mathlib.Core.Bool.{Bool, true, false}
-use mathlib.Core.List.{List, [], _∷_, map}
+use mathlib.Core.List.{List, [], _∷_}
 use native.Mathlib.Omega.{arith}
-use lib.Dec.{eqb, ltb}
+use lib.Dec.{eqb}
 use lib.ListN.{length}
-use Rattle.rules.specs.declared.samples.Sample.{Sample}
 use Rattle.rules.specs.Numbers.{if_then_else_}
 use Rattle.rules.specs.Bytes.{LF, inFront, parts}
 use Rattle.rules.specs.Lines.{Line, linesOf, lines}
 use Rattle.rules.specs.Answers.{Answer, accepted, refused, need, _>>=_, _>>_}
-use Rattle.rules.specs.SampleFile.{Sheet, sampleSheet, headingLine, rowValues, timeIn, laterRows, rowsAfter, sheetLines, sampleOf, sampleFile}
+use Rattle.rules.specs.SampleFile.{Sheet, sampleSheet, headingLine, rowValues, timeIn, laterRows, rowsAfter, sheetLines, sampleFile}
 use Rattle.samples.specs.ToCome.{mostPlace, placed}
 use Rattle.samples.proofs.PlaceLaws.{refused-stays, row-place, heading-place}
 

@@ -2,14 +2,14 @@
 use Prim.Native.Nat.{ℕ, suc, min, _≤_, _<_}
 use mathlib.Core.Path.{_≡_, refl, sym, ap, subst, _∙_}
 use mathlib.Core.Bool.{Bool, true, false}
-use mathlib.Core.List.{List, [], _∷_, map}
+use mathlib.Core.List.{List, [], _∷_}
 use native.Mathlib.Omega.{arith}
-use lib.Dec.{leb, ltb, eqb}
+use lib.Dec.{ltb, eqb}
 use borrow.Author.Tests.{lt-leb, eqb-true}
 use Rattle.rules.specs.declared.answers.Refusal.{Refusal}
 use Rattle.rules.specs.declared.samples.Sample.{Sample}
 use Rattle.rules.specs.Numbers.{if_then_else_}
-use Rattle.rules.specs.Answers.{Answer, accepted, refused, refusalOf, numberAndPlace, need, _>>=_, _>>_}
+use Rattle.rules.specs.Answers.{Answer, accepted, refused, refusalOf, need, _>>=_, _>>_}
 use Rattle.rules.specs.Lines.{Line}
 use Rattle.rules.specs.SampleFile.{sampleSheet, headingLine, rowValues, timeIn, laterRows, rowsAfter, sheetLines, sampleOf}
 use Rattle.rules.proofs.Checks.{bound, same-value}
@@ -21,8 +21,31 @@ use Rattle.samples.specs.declared.stage.Found.{Found}
 use Rattle.samples.specs.declared.stage.Turn.{Turn}
 use Rattle.sheet.specs.Headings.{columnsOf, headedOf}
 use Rattle.sheet.specs.Rows.{rowOf, rowIn}
-use Rattle.samples.specs.ToCome.{mostPlace, placed, samplesOf, toCome, rowFirst, afterHeading, afterFirst, afterLater}
+use Rattle.samples.specs.ToCome.{mostPlace, placed, samplesOf, toCome, rowFirst}
 use Rattle.samples.proofs.PlaceLaws.{refused-stays, row-place, heading-place, later-place}
+
+-- ---- what a line's answer leads to, as the code has it
+
+abbrev pub waiting : Stage → Turn
+waiting stage = record { stage = stage; found = Found.Nothing }
+
+abbrev pub afterHeading : Headed → Turn
+afterHeading (Headed.Found columns) = waiting (Stage.FirstRow columns)
+afterHeading (Headed.Refused r) = waiting (Stage.Refused r)
+
+-- 21: "first row's time not 0"
+abbrev pub afterFirst : Columns → RowRead → Turn
+afterFirst columns (RowRead.Values x) =
+    if eqb (x .at) 0 then record { stage = Stage.LaterRows columns 0 2; found = Found.Row x } else waiting (Stage.Refused (Refusal.FirstTime 2))
+afterFirst columns (RowRead.Refused r) = waiting (Stage.Refused r)
+
+-- "A later row whose time is not above the last accepted one is skipped"
+abbrev pub afterLater : Columns → ℕ → ℕ → RowRead → Turn
+afterLater columns last line (RowRead.Values x) =
+    if ltb last (x .at) then record { stage = Stage.LaterRows columns (x .at) line; found = Found.Row x } else waiting (Stage.LaterRows columns last line)
+afterLater columns last line (RowRead.Refused r) = waiting (Stage.Refused r)
+
+-- ---- that it is right
 
 -- what a line gave, and then what is to come of the lines that are left
 abbrev after : Turn → List Line → Answer (List Sample)

@@ -3,7 +3,10 @@ ghost use mathlib.Core.Path.{_≡_};
 ghost use Prim.Native.Nat.{ℕ, suc, min, _<_};
 ghost use mathlib.Core.List.{List, [], _∷_};
 ghost use Rattle.rules.specs.Lines.{Line};
-ghost use Rattle.samples.specs.ToCome.{mostPlace, toCome, rowFirst, endOf, afterHeading, afterFirst, afterLater};
+ghost use Rattle.rules.specs.SampleFile.{sampleSheet, headingLine};
+ghost use Rattle.sheet.specs.Headings.{headedOf};
+ghost use Rattle.sheet.specs.Rows.{rowOf, rowIn};
+ghost use Rattle.samples.specs.ToCome.{mostPlace, toCome, rowFirst, endOf};
 use rules::answers::Refusal;
 use rules::answers::Verdict;
 use rules::samples::Sample;
@@ -42,7 +45,7 @@ fn next_line(lines: u64) -> u64
 
 // After the heading line, the first row is awaited.
 fn after_heading(headed: Headed) -> Turn
-    ensures { λ r. ⌜ r ≡ afterHeading headed ⌝ }
+    ensures { λ r. ⌜ ((l : Line) (ls : List Line) → headedOf headed ≡ headingLine (sampleSheet .names) l → toCome Stage.Heading (l ∷ ls) ≡ rowFirst (r .found) (toCome (r .stage) ls)) ⌝ }
 {
     let found = Found::Nothing;
     match headed {
@@ -59,7 +62,7 @@ fn after_heading(headed: Headed) -> Turn
 
 // 21: "first row's time not 0".
 fn after_first(columns: Columns, row: RowRead) -> Turn
-    ensures { λ r. ⌜ r ≡ afterFirst columns row ⌝ }
+    ensures { λ r. ⌜ ((l : Line) (ls : List Line) → rowOf row ≡ rowIn columns 2 l → toCome (Stage.FirstRow columns) (l ∷ ls) ≡ rowFirst (r .found) (toCome (r .stage) ls)) ⌝ }
 {
     match row {
         RowRead::Refused(refusal) => Turn {
@@ -83,7 +86,7 @@ fn after_first(columns: Columns, row: RowRead) -> Turn
 
 // "A later row whose time is not above the last accepted one is skipped, after its checks".
 fn after_later(columns: Columns, last: u32, line: u64, row: RowRead) -> Turn
-    ensures { λ r. ⌜ r ≡ afterLater columns last line row ⌝ }
+    ensures { λ r. ⌜ ((l : Line) (ls : List Line) (lines : ℕ) → line ≡ min (suc lines) mostPlace → rowOf row ≡ rowIn columns line l → toCome (Stage.LaterRows columns last lines) (l ∷ ls) ≡ rowFirst (r .found) (toCome (r .stage) ls)) ⌝ }
 {
     match row {
         RowRead::Refused(refusal) => Turn {

@@ -1,16 +1,15 @@
 -- The four cells of a row, read one after the other: 11, 17, and then the cells. Assumes nothing.
 use Prim.Native.Nat.{ℕ, suc, _+_, _≤_, _<_}
-use mathlib.Core.Path.{_≡_, refl, sym, ap, _∙_, subst}
+use mathlib.Core.Path.{_≡_, refl, sym, ap, _∙_}
 use mathlib.Core.List.{List, [], _∷_}
 use native.Mathlib.Omega.{arith}
 use native.Mathlib.Decide.{decLt}
-use lib.Dec.{eqb}
 use lib.ListN.{length, drop}
 use borrow.Author.Tests.{le-leb, lt-leb, ne-eqb}
 use Rattle.bytes.specs.Bytes.{indexOf}
 use Rattle.rules.specs.declared.samples.Sample.{Sample}
 use Rattle.rules.specs.Bytes.{comma, parts}
-use Rattle.rules.specs.Lines.{Line, cellsOf}
+use Rattle.rules.specs.Lines.{cellsOf}
 use Rattle.rules.specs.Answers.{Answer, accepted, refused, _>>=_}
 use Rattle.rules.specs.SampleFile.{sampleSheet, rowValues, cellValues}
 use Rattle.sheet.specs.declared.headings.Columns.{Columns}

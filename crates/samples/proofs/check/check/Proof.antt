@@ -1,7 +1,5 @@
 -- `samples::check::check` meets its contract. Assumes nothing.
-use mathlib.Core.Path.{ap}
 use borrow.Author.Needs.{needs}
-use Rattle.samples.specs.Streamed.{spanned, checkedWith}
 use Rattle.samples.proofs.CheckLaws.{from-reader}
 use Rattle.samples.proofs.check.check.Statement.{statement}
 use Rattle.samples.proofs.check.check.Tie as tie

@@ -1,10 +1,5 @@
 -- `samples::check::check_samples` meets its contract. Assumes nothing.
-use mathlib.Core.List.{[], _++_}
-use mathlib.Core.Path.{sym, ap, _∙_}
-use native.Mathlib.Omega.{arith}
 use borrow.Author.Needs.{needs}
-use Rattle.samples.specs.Streamed.{sheetSpan, checkedWith}
-use Rattle.samples.specs.ToCome.{placed}
 use Rattle.samples.proofs.CheckLaws.{whole-file}
 use Rattle.samples.proofs.check.check_samples.Statement.{statement}
 use Rattle.samples.proofs.check.check_samples.Tie as tie

@@ -1,6 +1,7 @@
 -- `samples::stage::after_first` meets its contract. Assumes nothing.
 use borrow.Author.Tests.{eq-eqb, ne-eqb}
 use borrow.Author.Needs.{needs}
+use Rattle.samples.proofs.StageLaws.{first-taken}
 use Rattle.samples.proofs.stage.after_first.Statement.{statement}
 use Rattle.samples.proofs.stage.after_first.Tie as tie
 use Rattle.samples.proofs.stage.after_first.Reads as reads
@@ -16,15 +17,15 @@ enum-known-row-2 c = search needs
 
 -- src/stage.rt:71:17
 returns : tie.Need-returns
-returns c = rw (c .before .before .before .row2 .given .1, eq-eqb _ 0 (c .if1 .taken))
+returns c = λ l ls e. rw (c .before .before .before .row2 .given .1, eq-eqb _ 0 (c .if1 .taken)) at (first-taken (c .before .before .before .before .before .args .columns) l ls (c .before .before .before .before .before .args .row) e)
 
 -- src/stage.rt:61:1
 returns-2 : tie.Need-returns-2
-returns-2 c = rw (c .before .row .given .1)
+returns-2 c = λ l ls e. rw (c .before .row .given .1) at (first-taken (c .before .before .before .args .columns) l ls (c .before .before .before .args .row) e)
 
 -- src/stage.rt:61:1
 returns-3 : tie.Need-returns-3
-returns-3 c = rw (c .before .before .before .row2 .given .1, ne-eqb _ 0 (c .if1 .left))
+returns-3 c = λ l ls e. rw (c .before .before .before .row2 .given .1, ne-eqb _ 0 (c .if1 .left)) at (first-taken (c .before .before .before .before .before .args .columns) l ls (c .before .before .before .before .before .args .row) e)
 
 pub after-first-spec : {M : Type 1} → statement M
 after-first-spec = tie.close (tie.spec enum-known-row enum-known-row-2 returns returns-2 returns-3)

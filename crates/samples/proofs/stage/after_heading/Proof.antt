@@ -1,5 +1,6 @@
 -- `samples::stage::after_heading` meets its contract. Assumes nothing.
 use borrow.Author.Needs.{needs}
+use Rattle.samples.proofs.StageLaws.{heading-taken}
 use Rattle.samples.proofs.stage.after_heading.Statement.{statement}
 use Rattle.samples.proofs.stage.after_heading.Tie as tie
 use Rattle.samples.proofs.stage.after_heading.Reads as reads
@@ -15,11 +16,11 @@ enum-known-headed-2 c = search needs
 
 -- src/stage.rt:44:1
 returns : tie.Need-returns
-returns c = rw (c .before .headed .given .1)
+returns c = λ l ls e. rw (c .before .headed .given .1) at (heading-taken l ls (c .before .before .before .args .headed) e)
 
 -- src/stage.rt:44:1
 returns-2 : tie.Need-returns-2
-returns-2 c = rw (c .before .headed2 .given .1)
+returns-2 c = λ l ls e. rw (c .before .headed2 .given .1) at (heading-taken l ls (c .before .before .before .args .headed) e)
 
 pub after-heading-spec : {M : Type 1} → statement M
 after-heading-spec = tie.close (tie.spec enum-known-headed enum-known-headed-2 returns returns-2)

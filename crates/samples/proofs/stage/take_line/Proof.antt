@@ -1,6 +1,6 @@
 -- `samples::stage::take_line` meets its contract. Assumes nothing.
 use borrow.Author.Needs.{needs}
-use Rattle.samples.proofs.StageLaws.{heading-taken, first-taken, later-taken, refused-taken}
+use Rattle.samples.proofs.StageLaws.{refused-taken}
 use Rattle.samples.proofs.stage.take_line.Statement.{statement}
 use Rattle.samples.proofs.stage.take_line.Tie as tie
 use Rattle.samples.proofs.stage.take_line.Reads as reads
@@ -60,21 +60,21 @@ enum-known-stage-3 c = search needs
 returns : tie.Need-returns
 returns c =
     let told = c .before .before in
-    λ ls. rw (told .enum-told .given .1, c .after-heading .ensures) (heading-taken _ ls (c .before .heading-line .result) (c .before .heading-line .ensures))
+    λ ls. rw (told .enum-told .given .1) (c .after-heading .ensures _ ls (c .before .heading-line .ensures))
 
--- src/stage.rt:110:1
+-- src/stage.rt:113:1
 returns-2 : tie.Need-returns-2
 returns-2 c =
     let stage = c .before .before .before in
-    λ ls. rw (stage .stage .given .1, c .after-first .ensures) (first-taken _ _ ls (c .before .read-row .result) (c .before .read-row .ensures))
+    λ ls. rw (stage .stage .given .1) (c .after-first .ensures _ ls (c .before .read-row .ensures))
 
--- src/stage.rt:110:1
+-- src/stage.rt:113:1
 returns-3 : tie.Need-returns-3
 returns-3 c =
     let line = c .before .before in
-    λ ls. rw (line .before .before .stage2 .given .1, c .after-later .ensures) (later-taken _ _ ls _ _ _ (line .next-line .ensures) (c .before .read-row2 .result) (c .before .read-row2 .ensures))
+    λ ls. rw (line .before .before .stage2 .given .1) (c .after-later .ensures _ ls _ (line .next-line .ensures) (c .before .read-row2 .ensures))
 
--- src/stage.rt:110:1
+-- src/stage.rt:113:1
 returns-4 : tie.Need-returns-4
 returns-4 c = λ ls. rw (c .before .stage3 .given .1) (refused-taken _ _ ls)
 

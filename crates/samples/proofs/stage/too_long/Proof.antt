@@ -1,9 +1,5 @@
 -- `samples::stage::too_long` meets its contract. Assumes nothing.
-use Prim.Native.Nat.{_<_}
-use mathlib.Core.Path.{_≡_, refl, sym, ap, _∙_}
 use borrow.Author.Needs.{needs}
-use Rattle.samples.specs.ToCome.{toCome}
-use Rattle.rules.specs.Answers.{refused}
 use Rattle.samples.proofs.StageLaws.{long-heading, long-first, long-later, long-refused}
 use Rattle.samples.proofs.stage.too_long.Statement.{statement}
 use Rattle.samples.proofs.stage.too_long.Tie as tie

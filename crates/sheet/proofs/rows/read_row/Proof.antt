@@ -1,10 +1,7 @@
 -- `sheet::rows::read_row` meets its contract. Assumes nothing.
-use Prim.Native.Nat.{_+_, _≤_}
-use mathlib.Core.Path.{_≡_, _∙_}
-use native.Mathlib.Omega.{arith}
-use lib.ListN.{length}
+use mathlib.Core.Path.{_∙_}
 use borrow.Author.Needs.{needs}
-use Rattle.sheet.proofs.RowCells.{read-within, line-long, one-cell, two-cells, three-cells, more-cells, four-cells}
+use Rattle.sheet.proofs.RowCells.{line-long, one-cell, two-cells, three-cells, more-cells, four-cells}
 use Rattle.sheet.proofs.rows.read_row.Statement.{statement}
 use Rattle.sheet.proofs.rows.read_row.Tie as tie
 use Rattle.sheet.proofs.rows.read_row.Reads as reads
