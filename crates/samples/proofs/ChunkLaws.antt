@@ -1,26 +1,42 @@
 -- How a file is cut into chunks changes nothing, of any calls that owe what the contracts of `feed` and `pull` say. Assumes nothing.
 use Prim.Native.Nat.{ℕ}
 use mathlib.Core.Path.{_≡_, refl, ap, _∙_}
-use mathlib.Core.List.{List, [], _∷_, _++_}
+use mathlib.Core.Bool.{true}
+use mathlib.Core.List.{List, [], _∷_, _++_, append-assoc}
 use lib.ListN.{length, drop}
 use lib.Seq.{drop-length}
 use Rattle.rules.specs.declared.samples.Sample.{Sample}
 use Rattle.rules.specs.Answers.{Answer, accepted, refused}
+use Rattle.rules.proofs.Tests.{never}
+use Rattle.samples.specs.declared.stage.Stage.{Stage}
 use Rattle.samples.specs.declared.stage.Found.{Found}
 use Rattle.samples.specs.declared.reader.SampleReader.{SampleReader}
 use Rattle.samples.specs.declared.check.SampleCheck.{SampleCheck}
-use Rattle.samples.specs.ToCome.{rowFirst}
-use Rattle.samples.specs.Streamed.{yetToCome, isRow, PulledRight, checkedWith}
+use Rattle.samples.specs.ToCome.{toCome, rowFirst}
+use Rattle.samples.specs.Streamed.{yetToCome, isRow, PulledRight, checkedWith, linesAfter, begunIn, spanned, isRefused}
 use Rattle.samples.specs.Chunks.{joined, Feeds, Pulls, leftAt, rowsThen}
 
 -- what a call of `feed` owes, in its contract's words
 abbrev pub FedRight : SampleCheck → List ℕ → SampleCheck → Type 0
 FedRight c chunk d = (rest : List ℕ) → checkedWith c (chunk ++ rest) ≡ checkedWith d rest
 
-pub feeds-right : {c last : SampleCheck} {chunks : List (List ℕ)} → Feeds FedRight c chunks last → checkedWith c (joined chunks) ≡ checkedWith last []
+-- whatever follows the chunks
+pub feeds-right : {c last : SampleCheck} {chunks : List (List ℕ)} → Feeds FedRight c chunks last → (rest : List ℕ) → checkedWith c (joined chunks ++ rest) ≡ checkedWith last rest
 unfolding joined
-feeds-right Feeds.none = refl
-feeds-right (Feeds.more {chunks = chunks} one rest) = one (joined chunks) ∙ feeds-right rest
+feeds-right Feeds.none rest = refl
+feeds-right {c} (Feeds.more {chunk = chunk} {chunks = chunks} one more) rest =
+    ap (checkedWith c) (append-assoc chunk (joined chunks) rest) ∙ one (joined chunks ++ rest) ∙ feeds-right more rest
+
+-- once a line was refused, no rest of the file changes the answer
+pub refused-for-good : (c : SampleCheck) (rest : List ℕ) → isRefused (c .reader .stage) ≡ true → checkedWith c [] ≡ checkedWith c rest
+unfolding checkedWith yetToCome toCome
+refused-for-good c rest h = go (c .reader .stage) h
+  where
+    go : (s : Stage) → isRefused s ≡ true → spanned (c .span) (toCome s (linesAfter (begunIn (c .reader)) [])) ≡ spanned (c .span) (toCome s (linesAfter (begunIn (c .reader)) rest))
+    go Stage.Heading e = never e
+    go (Stage.FirstRow columns) e = never e
+    go (Stage.LaterRows columns last n) e = never e
+    go (Stage.Refused r) e = refl
 
 one-more : (x : Sample) (rows : List Sample) (a : Answer (List Sample)) → rowFirst (Found.Row x) (rowsThen rows a) ≡ rowsThen (x ∷ rows) a
 one-more x rows (accepted others) = refl

@@ -3,7 +3,8 @@
 -- All that is known of a call is what the function's own contract ensures. Assumes nothing.
 use Prim.Native.Nat.{ℕ, _≤_}
 use mathlib.Core.Path.{_≡_, sym, ap, _∙_}
-use mathlib.Core.List.{List, [], _++_}
+use mathlib.Core.Bool.{true}
+use mathlib.Core.List.{List, [], _++_, append-nil}
 use lib.ListN.{length}
 use borrow.Fn.Kinds as kinds
 use contract.Lifetimes.{Lfts}
@@ -19,17 +20,19 @@ use Rattle.samples.specs.declared.reader.Ending.{Ending}
 use Rattle.samples.specs.declared.check.SampleCheck.{SampleCheck}
 use Rattle.samples.specs.declared.check.Checked.{Checked}
 use Rattle.samples.specs.ToCome.{mostPlace, placed}
-use Rattle.samples.specs.Streamed.{yetToCome, PulledRight, endingOf, sheetSpan, checkedWith, checkedOf}
+use Rattle.samples.specs.Streamed.{yetToCome, PulledRight, endingOf, sheetSpan, checkedWith, checkedOf, isRefused}
 use Rattle.samples.specs.Chunks.{joined, Feeds, Pulls, leftAt, rowsThen}
 use Rattle.samples.proofs.PlaceBound.{file-place}
 use Rattle.samples.proofs.CheckLaws.{span-place, span-judged}
-use Rattle.samples.proofs.ChunkLaws.{FedRight, feeds-right, left-next, pulls-right}
+use Rattle.samples.proofs.ChunkLaws.{FedRight, feeds-right, refused-for-good, left-next, pulls-right}
 use Rattle.samples.proofs.check.check.Reads as check-reads
 use Rattle.samples.proofs.check.check.Kinds as check-kinds
 use Rattle.samples.proofs.check.feed.Reads as feed-reads
 use Rattle.samples.proofs.check.feed.Kinds as feed-kinds
 use Rattle.samples.proofs.check.finish.Reads as finish-reads
 use Rattle.samples.proofs.check.finish.Kinds as finish-kinds
+use Rattle.samples.proofs.check.is_refused.Reads as is-refused-reads
+use Rattle.samples.proofs.check.is_refused.Kinds as is-refused-kinds
 use Rattle.samples.proofs.reader.reader.Reads as reader-reads
 use Rattle.samples.proofs.reader.reader.Kinds as reader-kinds
 use Rattle.samples.proofs.reader.pull.Reads as pull-reads
@@ -61,6 +64,14 @@ pub record Finished (c : SampleCheck) (v : Checked) : Type 0 where
   pub exit : clauses.AtExit (kinds.endedOf 0 finish-kinds.ps finish-kinds.r) κs
   pub passed : args .0 ≡ c
   pub returned : finish-reads.Post κs args v exit
+
+-- `is_refused` was handed c, and answered that a line was refused
+pub record ToldRefused (c : SampleCheck) : Type 0 where
+  pub κs : Lfts 0
+  pub args : kinds.Dens κs is-refused-kinds.ps
+  pub exit : clauses.AtExit (kinds.endedOf 0 is-refused-kinds.ps is-refused-kinds.r) κs
+  pub passed : args .0 ≡ c
+  pub returned : is-refused-reads.Post κs args true exit
 
 -- `reader` gave m
 pub record Opened (m : SampleReader) : Type 0 where
@@ -108,12 +119,29 @@ pulls-owe (Pulls.next p one is rest) = Pulls.next p (pulled-owes one) is (pulls-
 
 -- ---- THE CHECK, over every list of chunks
 
+-- what a check that was begun and fed comes to, whatever follows the chunks
+begun-and-fed : (chunks : List (List ℕ)) (first last : SampleCheck) (rest : List ℕ) → Begun first → Feeds Fed first chunks last → checkedWith last rest ≡ placed (sheetSpan (joined chunks ++ rest))
+begun-and-fed chunks first last rest b f =
+    let q : (rest : List ℕ) → checkedWith first rest ≡ placed (sheetSpan rest) = b .returned in
+    sym (feeds-right (feeds-owe f) rest) ∙ q (joined chunks ++ rest)
+
+finished : (last : SampleCheck) (v : Checked) → Finished last v → checkedOf v ≡ checkedWith last []
+finished last v e =
+    let p : checkedOf v ≡ checkedWith (e .args .0) [] = e .returned in
+    p ∙ ap (λ (c : SampleCheck). checkedWith c []) (e .passed)
+
 pub check-of-chunks : (chunks : List (List ℕ)) (first last : SampleCheck) (v : Checked) → Begun first → Feeds Fed first chunks last → Finished last v
     → checkedOf v ≡ placed (sheetSpan (joined chunks))
 check-of-chunks chunks first last v b f e =
-    let p : checkedOf v ≡ checkedWith (e .args .0) [] = e .returned in
-    let q : (rest : List ℕ) → checkedWith first rest ≡ placed (sheetSpan rest) = b .returned in
-    p ∙ ap (λ (c : SampleCheck). checkedWith c []) (e .passed) ∙ sym (feeds-right (feeds-owe f)) ∙ q (joined chunks)
+    finished last v e ∙ begun-and-fed chunks first last [] b f ∙ ap (λ (s : List ℕ). placed (sheetSpan s)) (append-nil (joined chunks))
+
+-- a check that stops at a refused line answers what document 01 answers on the whole file, whatever the rest of it is
+pub check-cut-short : (chunks : List (List ℕ)) (rest : List ℕ) (first last : SampleCheck) (v : Checked) → Begun first → Feeds Fed first chunks last → ToldRefused last → Finished last v
+    → checkedOf v ≡ placed (sheetSpan (joined chunks ++ rest))
+check-cut-short chunks rest first last v b f t e =
+    let r : true ≡ isRefused (t .args .0 .reader .stage) = t .returned in
+    let k : isRefused (last .reader .stage) ≡ true = ap (λ (c : SampleCheck). isRefused (c .reader .stage)) (sym (t .passed)) ∙ sym r in
+    finished last v e ∙ refused-for-good last rest k ∙ begun-and-fed chunks first last rest b f
 
 -- of a file of less than 2^64 bytes: its rows and span, or document 01's refusal and its place
 pub check-streamed : (chunks : List (List ℕ)) (first last : SampleCheck) (v : Checked) → length (joined chunks) ≤ mostPlace
