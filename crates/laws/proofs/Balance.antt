@@ -6,9 +6,10 @@ use mathlib.Core.Path.{_≡_}
 use native.Mathlib.Omega.{arith}
 use native.Mathlib.Nat.{div-mul-le-self, mul-le-mul-left, mul-le-mul-right, le-trans}
 use Rattle.rules.specs.declared.station.Battery.{Battery}
-use Rattle.rules.specs.declared.station.Control.{Control}
+use Rattle.rules.specs.declared.station.Station.{Station}
 use Rattle.rules.specs.declared.run.Inputs.{Inputs}
 use Rattle.rules.specs.declared.run.Watts.{Watts}
+use Rattle.rules.specs.Share.{capacity}
 use Rattle.rules.specs.Flows.{percent, floorLoad, shedNow, solarOnLoad, batteryGives, batteryTakes, storeAfter, dieselFor, wattsWith, wattsFor}
 
 -- ---- each step's bounds
@@ -47,9 +48,12 @@ unfolding batteryTakes
 takes-room b store surplus =
     le-trans (mul-le-mul-right (b .efficiency) (omega arith)) (div-mul-le-self (b .most - store) (b .efficiency))
 
-floor-most : (c : Control) (cap : ℕ) → c .minload ≤ 100 → floorLoad c cap ≤ cap
+pub floor-most : (st : Station) (mask : ℕ) → st .control .minload ≤ 100 → floorLoad st mask ≤ capacity (st .sets) mask
 unfolding floorLoad
-floor-most c cap h = let k : cap * c .minload ≤ cap * 100 = mul-le-mul-left cap h in omega arith
+floor-most st mask h =
+    let cap : ℕ = capacity (st .sets) mask in
+    let k : cap * st .control .minload ≤ cap * 100 = mul-le-mul-left cap h in
+    omega arith
 
 -- ---- on plain numbers
 
@@ -102,15 +106,15 @@ module _ (b : Battery) (store cap rest surplus : ℕ) (low : b .least ≤ store)
 
 -- ---- a second
 
-module _ (c : Control) (b : Battery) (store cap decided : ℕ) (x : Inputs) where
+module _ (b : Battery) (store cap floor decided : ℕ) (x : Inputs) where
   abbrev w : Watts
-  w = wattsFor c b store cap decided x
+  w = wattsFor b store cap floor decided x
 
   abbrev off : ℕ
   off = shedNow (x .sheddable) decided
 
   abbrev solar : ℕ
-  solar = solarOnLoad (x .solar) (x .load - off) (floorLoad c cap)
+  solar = solarOnLoad (x .solar) (x .load - off) floor
 
   abbrev rest : ℕ
   rest = x .load - off - solar
@@ -119,7 +123,7 @@ module _ (c : Control) (b : Battery) (store cap decided : ℕ) (x : Inputs) wher
   pub solar-placed : x .solar ≡ w .solar + w .charge + w .spill
   unfolding wattsFor wattsWith
   solar-placed =
-      omega (arith, solar-offered (x .solar) (x .load - off) (floorLoad c cap), takes-surplus b store (x .solar - solar))
+      omega (arith, solar-offered (x .solar) (x .load - off) floor, takes-surplus b store (x .solar - solar))
 
   -- "load .. equals diesel + solar on the load + given + shed + unserved"
   pub load-met : x .sheddable ≤ x .load → x .load ≡ w .diesel + w .solar + w .give + w .shed + w .unserved
@@ -127,7 +131,7 @@ module _ (c : Control) (b : Battery) (store cap decided : ℕ) (x : Inputs) wher
   load-met h =
       let give : ℕ = batteryGives b store cap rest in
       let a : off ≤ x .load = le-trans (shed-most (x .sheddable) decided) h in
-      let d : solar ≤ x .load - off = le-trans (solar-demand (x .solar) (x .load - off) (floorLoad c cap)) (omega arith) in
+      let d : solar ≤ x .load - off = le-trans (solar-demand (x .solar) (x .load - off) floor) (omega arith) in
       let e : give ≤ rest = le-trans (gives-lacking b store cap rest) (omega arith) in
       met (x .load) off solar rest give (dieselFor cap (rest - give)) (rest-is (x .load) off solar a d) e (diesel-most cap (rest - give))
 
@@ -139,13 +143,13 @@ module _ (c : Control) (b : Battery) (store cap decided : ℕ) (x : Inputs) wher
     pub none-spilled : w .spill ≡ 0
     pub battery-full : w .give ≡ min (b .power) ((store - b .least) / 100)
 
-  pub unserved-last : c .minload ≤ 100 → 0 < w .unserved → AllServing
+  pub unserved-last : floor ≤ cap → 0 < w .unserved → AllServing
   unfolding wattsFor wattsWith
-  unserved-last percent h =
+  unserved-last low h =
       let give : ℕ = batteryGives b store cap rest in
       let d = diesel-all cap (rest - give) h in
-      let f : floorLoad c cap < x .load - off - solar = omega (arith, floor-most c cap percent, d .1) in
-      let s : solar ≡ x .solar = solar-used (x .solar) (x .load - off) (floorLoad c cap) f in
+      let f : floor < x .load - off - solar = omega (arith, d .1) in
+      let s : solar ≡ x .solar = solar-used (x .solar) (x .load - off) floor f in
       let k : batteryTakes b store (x .solar - solar) ≡ 0 = none-taken b store (x .solar - solar) (omega arith) in
       record {
         diesel-full = d .0;

@@ -22,11 +22,11 @@ use Rattle.rules.specs.Answers.{accepted}
 use Rattle.rules.specs.StationRecord.{setAt, someFileGives}
 use Rattle.rules.specs.Share.{share}
 use Rattle.rules.specs.Modes.{fresh, stateAt, tick, ticked}
-use Rattle.rules.specs.Flows.{wattsFor, wattsWith, floorLoad, shedNow, solarOnLoad, dieselFor, shedDecided}
+use Rattle.rules.specs.Flows.{wattsFor, wattsWith, shedNow, solarOnLoad, dieselFor, shedDecided}
 use Rattle.rules.specs.Commands.{counted, countedAll, command, commandedAll, everyOn}
 use Rattle.rules.specs.Configuration.{maskCalled}
 use Rattle.rules.specs.RunRecord.{mostSeconds, statePossible, statesPossible, totalsPossible, decidedPossible, recordRules, possible}
-use Rattle.rules.specs.Second.{statesNow, onNow, capNow, wattsNow, storeNow, decidedNow, ranNow, heldNow, callNow, commandedNow, plus, recordAfter, step, inputsRight, admitted, second}
+use Rattle.rules.specs.Second.{statesNow, onNow, capNow, floorNow, wattsNow, storeNow, decidedNow, ranNow, heldNow, callNow, commandedNow, plus, recordAfter, step, inputsRight, admitted, second}
 use Rattle.rules.proofs.Tests.{and-true, all-at, to-at, to-all, within-fact, fact-within}
 use Rattle.rules.proofs.Checks.{passed, both-passed, same-value}
 use Rattle.rules.proofs.Tables.{tab-at, has-beyond}
@@ -155,7 +155,7 @@ module _ (st : Station) (shaped : Shaped st) (r : Run) (x : Inputs) (in-order : 
       let b : Battery = st .battery in
       let range = within-fact (b .least) (b .most) (r .store) (rule 1) in
       let off : ℕ = shedNow (x .sheddable) (getD (r .decided) 0 0) in
-      let solar : ℕ = solarOnLoad (x .solar) (x .load - off) (floorLoad (st .control) (capNow st r)) in
+      let solar : ℕ = solarOnLoad (x .solar) (x .load - off) (floorNow st r) in
       let rest : ℕ = x .load - off - solar in
       fact-within (b .least) (b .most) _ (store-least b (r .store) (capNow st r) rest (x .solar - solar) (range .0)) (store-most b (r .store) (capNow st r) rest (x .solar - solar) (range .0) (range .1))
 
@@ -171,7 +171,7 @@ module _ (st : Station) (shaped : Shaped st) (r : Run) (x : Inputs) (in-order : 
   totals-now : totalsPossible (plus (r .totals) w) (50_000_000 * (r .done + 1)) ≡ true
   unfolding wattsNow
   totals-now =
-      totals-kept (r .totals) w (r .done) (watts-small (st .control) (st .battery) (r .store) (capNow st r) (getD (r .decided) 0 0) x (in-order .load-most) (in-order .solar-most) (in-order .sheddable-most)) (rule 5)
+      totals-kept (r .totals) w (r .done) (watts-small (st .battery) (r .store) (capNow st r) (floorNow st r) (getD (r .decided) 0 0) x (in-order .load-most) (in-order .solar-most) (in-order .sheddable-most)) (rule 5)
 
   -- ---- the whole record
 

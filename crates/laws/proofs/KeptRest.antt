@@ -21,7 +21,7 @@ use Rattle.rules.specs.declared.run.Totals.{Totals}
 use Rattle.rules.specs.declared.run.Inputs.{Inputs}
 use Rattle.rules.specs.Numbers.{if_then_else_}
 use Rattle.rules.specs.Share.{capacity}
-use Rattle.rules.specs.Flows.{floorLoad, shedNow, solarOnLoad, batteryGives, batteryTakes, dieselFor, wattsWith, wattsFor, shedDecided, decidedAfter}
+use Rattle.rules.specs.Flows.{shedNow, solarOnLoad, batteryGives, batteryTakes, dieselFor, wattsWith, wattsFor, shedDecided, decidedAfter}
 use Rattle.rules.specs.Configuration.{maskCalled, usable, usableCovering, firstCovering, greatestUsable, chosen, sinceAfter}
 use Rattle.rules.specs.RunRecord.{totalRules, totalsPossible, decidedPossible}
 use Rattle.rules.specs.Second.{plus}
@@ -97,11 +97,11 @@ with-small b store cap x off solar load offered shed used =
       unserved = omega arith;
     }
 
-pub watts-small : (c : Control) (b : Battery) (store cap decided : ℕ) (x : Inputs) → x .load ≤ 50_000_000 → x .solar ≤ 50_000_000 → x .sheddable ≤ 50_000_000 → Small (wattsFor c b store cap decided x)
+pub watts-small : (b : Battery) (store cap floor decided : ℕ) (x : Inputs) → x .load ≤ 50_000_000 → x .solar ≤ 50_000_000 → x .sheddable ≤ 50_000_000 → Small (wattsFor b store cap floor decided x)
 unfolding wattsFor
-watts-small c b store cap decided x load offered sheddable =
+watts-small b store cap floor decided x load offered sheddable =
     let off : ℕ = shedNow (x .sheddable) decided in
-    with-small b store cap x off (solarOnLoad (x .solar) (x .load - off) (floorLoad c cap)) load offered (omega (arith, shed-most (x .sheddable) decided)) (solar-offered (x .solar) (x .load - off) (floorLoad c cap))
+    with-small b store cap x off (solarOnLoad (x .solar) (x .load - off) floor) load offered (omega (arith, shed-most (x .sheddable) decided)) (solar-offered (x .solar) (x .load - off) floor)
 
 one-more : (t w done : ℕ) → leb t (50_000_000 * done) ≡ true → w ≤ 50_000_000 → leb (t + w) (50_000_000 * (done + 1)) ≡ true
 one-more t w done h k = let a = leb-true t (50_000_000 * done) h in le-leb (t + w) (50_000_000 * (done + 1)) (omega arith)

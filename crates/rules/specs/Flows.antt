@@ -4,16 +4,18 @@ use mathlib.Core.List.{List, _∷_, _++_}
 use lib.ListN.{take, drop}
 use Rattle.rules.specs.declared.station.Battery.{Battery}
 use Rattle.rules.specs.declared.station.Control.{Control}
+use Rattle.rules.specs.declared.station.Station.{Station}
 use Rattle.rules.specs.declared.run.Inputs.{Inputs}
 use Rattle.rules.specs.declared.run.Watts.{Watts}
+use Rattle.rules.specs.Share.{capacity}
 
 abbrev pub percent : ℕ → ℕ → ℕ
 percent x p = x * p / 100
 
--- ---- 2. "Floor load = cap x minimum load % / 100."
+-- ---- 2. "Floor load = cap x minimum load % / 100.", of a station and the mask of its sets On
 
-unfoldable pub floorLoad : Control → ℕ → ℕ
-floorLoad c cap = percent cap (c .minload)
+unfoldable pub floorLoad : Station → ℕ → ℕ
+floorLoad st mask = percent (capacity (st .sets) mask) (st .control .minload)
 
 -- ---- 3. Shed. "off = smaller of H and the amount decided "delay" seconds ago"
 
@@ -65,10 +67,10 @@ wattsWith b store cap x off solar =
       unserved = rest - give - diesel;
     }
 
-unfoldable pub wattsFor : Control → Battery → ℕ → ℕ → ℕ → Inputs → Watts
-wattsFor c b store cap decidedThen x =
+unfoldable pub wattsFor : Battery → ℕ → ℕ → ℕ → ℕ → Inputs → Watts
+wattsFor b store cap floor decidedThen x =
     let off = shedNow (x .sheddable) decidedThen in
-    wattsWith b store cap x off (solarOnLoad (x .solar) (x .load - off) (floorLoad c cap))
+    wattsWith b store cap x off (solarOnLoad (x .solar) (x .load - off) floor)
 
 -- R = D - solar on load, with D = L - off
 abbrev pub restOf : Watts → ℕ

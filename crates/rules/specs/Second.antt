@@ -21,7 +21,7 @@ use Rattle.rules.specs.Answers.{Answer, accepted, refused, need, _>>_, o
 use Rattle.rules.specs.StationRecord.{someFileGives}
 use Rattle.rules.specs.Share.{capacity}
 use Rattle.rules.specs.Modes.{ticked, onMask}
-use Rattle.rules.specs.Flows.{wattsFor, storeAfter, restOf, shedDecided, decidedAfter}
+use Rattle.rules.specs.Flows.{floorLoad, wattsFor, storeAfter, restOf, shedDecided, decidedAfter}
 use Rattle.rules.specs.Commands.{countedAll, commandedAll}
 use Rattle.rules.specs.Setpoint.{wantedFor, heldAfter}
 use Rattle.rules.specs.Configuration.{maskCalled, chosen, sinceAfter}
@@ -41,9 +41,12 @@ onNow st r = onMask (statesNow st r)
 unfoldable pub capNow : Station → Run → ℕ
 capNow st r = capacity (st .sets) (onNow st r)
 
+unfoldable pub floorNow : Station → Run → ℕ
+floorNow st r = floorLoad st (onNow st r)
+
 -- 3. to 6. Shed, Solar, Battery, Diesel; "the amount decided "delay" seconds ago" is the oldest held.
 unfoldable pub wattsNow : Station → Run → Inputs → Watts
-wattsNow st r x = wattsFor (st .control) (st .battery) (r .store) (capNow st r) (getD (r .decided) 0 0) x
+wattsNow st r x = wattsFor (st .battery) (r .store) (capNow st r) (floorNow st r) (getD (r .decided) 0 0) x
 
 unfoldable pub storeNow : Station → Run → Watts → ℕ
 storeNow st r w = storeAfter (st .battery) (r .store) (w .charge) (w .give)
