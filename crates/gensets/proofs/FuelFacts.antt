@@ -11,7 +11,7 @@ use Rattle.rules.specs.Answers.{accepted, refused}
 use Rattle.rules.specs.StationRecord.{setAt, setRight, pairsRight, someFileGives}
 use Rattle.rules.specs.Fuel.{loadAt, rateAt, stepAt, lowerPoint, exactFrom, fuelRate}
 use Rattle.rules.proofs.Tests.{and-true, fact-within}
-use Rattle.rules.proofs.Shapes.{Shaped}
+use Rattle.rules.proofs.Shapes.{Shaped, tables-of}
 use Rattle.rules.proofs.StationFacts.{rating-range, points-range, pair-at, right-of}
 use Rattle.laws.proofs.Fuel.{loads-rise, lower-inside}
 use Rattle.laws.proofs.StationAt.{set-at}
@@ -66,5 +66,5 @@ module _ (g : GenSet) (numbers : setRight g ≡ true) (pairs : pairsRight g ≡ 
 pub station-rate : (st : Station) → Shaped st → someFileGives st ≡ true → (i : ℕ) → i < st .setcount → (power : ℕ) → power ≤ 2 * setAt (st .sets) i .rating
     → rateOfSet (setAt (st .sets) i) power ≡ accepted (fuelRate (setAt (st .sets) i) power)
 station-rate st shaped given i h power l =
-    let right = set-at st shaped (right-of st given) i h in
+    let right = set-at st (tables-of shaped) (right-of st given) i h in
     rate-accepted (setAt (st .sets) i) (right .0) (right .1) power l

@@ -30,8 +30,9 @@ use Rattle.rules.specs.Second.{statesNow, onNow, capNow, floorNow, wattsNow, st
 use Rattle.rules.proofs.Tests.{and-true, all-at, to-at, to-all, within-fact, fact-within}
 use Rattle.rules.proofs.Checks.{passed, both-passed, same-value}
 use Rattle.rules.proofs.Tables.{tab-at, has-beyond}
-use Rattle.rules.proofs.Shapes.{Shaped}
+use Rattle.rules.proofs.Shapes.{Tables}
 use Rattle.rules.proofs.StationFacts.{Right, right-of, delay-range}
+use Rattle.laws.specs.Admitted.{Admitted}
 use Rattle.laws.proofs.StationAt.{set-at, called-existing}
 use Rattle.laws.proofs.Share.{share-most}
 use Rattle.laws.proofs.FuelMost.{rate-most}
@@ -42,16 +43,6 @@ use Rattle.laws.proofs.KeptRest.{chosen-most, since-most, watts-small, 
 diesel-cap : (cap rest : ℕ) → dieselFor cap rest ≤ cap
 unfolding dieselFor
 diesel-cap cap rest = omega arith
-
--- what an accepted second was handed
-pub record Admitted (st : Station) (r : Run) (x : Inputs) : Type 0 where
-  pub station-given : someFileGives st ≡ true
-  pub record-possible : possible st r ≡ true
-  pub not-ended : r .done < mostSeconds
-  pub load-most : x .load ≤ 50_000_000
-  pub solar-most : x .solar ≤ 50_000_000
-  pub sheddable-most : x .sheddable ≤ 50_000_000
-  pub sheddable-load : x .sheddable ≤ x .load
 
 pub admitted-of : (st : Station) (r : Run) (x : Inputs) (room : ℕ) (s : Step) → second st r x room ≡ accepted s → Admitted st r x × (step st r x ≡ s)
 unfolding second admitted
@@ -75,7 +66,7 @@ admitted-of st r x room s h =
       same-value (step st r x) s (c .1),
     )
 
-module _ (st : Station) (shaped : Shaped st) (r : Run) (x : Inputs) (in-order : Admitted st r x) where
+module _ (st : Station) (tables : Tables st) (r : Run) (x : Inputs) (in-order : Admitted st r x) where
   right : Right st
   right = right-of st (in-order .station-given)
 
@@ -137,10 +128,10 @@ module _ (st : Station) (shaped : Shaped st) (r : Run) (x : Inputs) (in-order : 
 
       go : (exists : Bool) → ltb i (st .setcount) ≡ exists → statePossible exists g (stateAt (r .sets) i) (r .done) ≡ true → statePossible exists g (after i) (r .done + 1) ≡ true
       go true e p =
-          let checks = set-at st shaped right i (ltb-true i (st .setcount) e) in
+          let checks = set-at st tables right i (ltb-true i (st .setcount) e) in
           existing-kept g (stateAt (r .sets) i) (share (st .sets) (onNow st r) (w .diesel) i) (r .done) _ _ (checks .0) (share-rated i) (rate-most g (checks .0) (checks .1) (share (st .sets) (onNow st r) (w .diesel) i) (share-rated i)) p
       go false e p =
-          let not-called : has (maskCalled (st .configs) call) i ≡ false = has-beyond (st .setcount) (maskCalled (st .configs) call) i (called-existing st shaped right call call-most) (ltb-false i (st .setcount) e) in
+          let not-called : has (maskCalled (st .configs) call) i ≡ false = has-beyond (st .setcount) (maskCalled (st .configs) call) i (called-existing st tables right call call-most) (ltb-false i (st .setcount) e) in
           rw not-called (other-kept g (stateAt (r .sets) i) (share (st .sets) (onNow st r) (w .diesel) i) (r .done) (everyOn (ranNow st r w) (maskCalled (st .configs) call)) p)
 
   states-kept : statesPossible (st .setcount) (st .sets) (commandedNow st r x w) (r .done + 1) ≡ true
@@ -190,8 +181,8 @@ module _ (st : Station) (shaped : Shaped st) (r : Run) (x : Inputs) (in-order : 
       decided-now
 
 -- from a possible record an accepted second gives a possible record
-pub second-kept : (st : Station) → Shaped st → (r : Run) (x : Inputs) (room : ℕ) (s : Step) → second st r x room ≡ accepted s → possible st (s .run) ≡ true
+pub second-kept : (st : Station) → Tables st → (r : Run) (x : Inputs) (room : ℕ) (s : Step) → second st r x room ≡ accepted s → possible st (s .run) ≡ true
 unfolding step
-second-kept st shaped r x room s h =
+second-kept st tables r x room s h =
     let a = admitted-of st r x room s h in
-    ap (λ (t : Step). possible st (t .run)) (sym (a .1)) ∙ record-kept st shaped r x (a .0)
+    ap (λ (t : Step). possible st (t .run)) (sym (a .1)) ∙ record-kept st tables r x (a .0)

@@ -84,16 +84,16 @@ module _ (g : GenSet) (numbers : setRight g ≡ true) where
 
 -- ---- counts, of which starts and stops have a bound of their own until the commands are given
 
-record Within (g : GenSet) (s : SetState) (done switched : ℕ) : Type 0 where
-  run-most : s .run ≤ done
-  clock-most : s .clock ≤ done
-  starts-most : s .starts ≤ switched
-  stops-most : s .stops ≤ switched
-  energy-most : s .energy ≤ g .rating * done
-  fuel-most : s .fuel ≤ 15_000_000_000 * done
+pub record Within (g : GenSet) (s : SetState) (done switched : ℕ) : Type 0 where
+  pub run-most : s .run ≤ done
+  pub clock-most : s .clock ≤ done
+  pub starts-most : s .starts ≤ switched
+  pub stops-most : s .stops ≤ switched
+  pub energy-most : s .energy ≤ g .rating * done
+  pub fuel-most : s .fuel ≤ 15_000_000_000 * done
 
 module _ (g : GenSet) where
-  from-rules : (s : SetState) (done : ℕ) → countsPossible g s done ≡ true → Within g s done done
+  pub from-rules : (s : SetState) (done : ℕ) → countsPossible g s done ≡ true → Within g s done done
   from-rules s done h = record {
     run-most = leb-true _ _ (all-at (countRules g s done) 0 h);
     clock-most = leb-true _ _ (all-at (countRules g s done) 1 h);
@@ -124,7 +124,7 @@ module _ (g : GenSet) where
     fuel-most = c .fuel-most;
   }
 
-  tick-counts : (s : SetState) (m : Mode) (done switched : ℕ) → Within g s done switched → Within g (tickFrom g s m) done switched
+  pub tick-counts : (s : SetState) (m : Mode) (done switched : ℕ) → Within g s done switched → Within g (tickFrom g s m) done switched
   unfolding tickFrom
   tick-counts s Off done switched c = c
   tick-counts s (Warming n) done switched c = same-counts s _ (s .clock) done switched (c .clock-most) c
@@ -136,7 +136,7 @@ module _ (g : GenSet) where
       (λ f. same-counts s (Service (n - 1)) (s .clock) done switched (c .clock-most) c)
 
   -- one second more, and what a set On adds
-  count-counts : (s : SetState) (power done switched : ℕ) → power ≤ g .rating → fuelRate g power ≤ 15_000_000_000 → Within g s done switched → Within g (counted g s power) (done + 1) switched
+  pub count-counts : (s : SetState) (power done switched : ℕ) → power ≤ g .rating → fuelRate g power ≤ 15_000_000_000 → Within g s done switched → Within g (counted g s power) (done + 1) switched
   unfolding counted
   count-counts s power done switched p f c =
       let rating : g .rating * (done + 1) ≡ g .rating * done + g .rating = mul-add (g .rating) done 1 ∙ ap (λ (x : ℕ). g .rating * done + x) (mul-one (g .rating)) in
@@ -209,7 +209,7 @@ existing-kept g s power done called everyOn numbers p f h =
 
 -- ---- and one that it has not, which is never called
 
-off-only : (m : Mode) → isOff m ≡ true → m ≡ Off
+pub off-only : (m : Mode) → isOff m ≡ true → m ≡ Off
 off-only Off h = refl
 off-only (Warming n) h = never h
 off-only On h = never h

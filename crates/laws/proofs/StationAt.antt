@@ -19,7 +19,7 @@ use Rattle.rules.specs.StationRecord.{pastEnd, setAt, setRight, pairsRight, con
 use Rattle.rules.specs.Configuration.{maskCalled}
 use Rattle.rules.proofs.Tests.{both}
 use Rattle.rules.proofs.Checks.{passed}
-use Rattle.rules.proofs.Shapes.{Shaped}
+use Rattle.rules.proofs.Shapes.{Tables}
 use Rattle.rules.proofs.StationFacts.{Right}
 
 -- the checks of the set at a place
@@ -45,12 +45,12 @@ masks-at setcount n (m ∷ masks) h (suc i) l =
     let a = passed (configurationRight setcount m) 8 (suc n) (configurationsRight setcount (suc n) masks) tt h in
     masks-at setcount (suc n) masks (a .1) i (omega arith)
 
-module _ (st : Station) (shaped : Shaped st) (right : Right st) where
+module _ (st : Station) (tables : Tables st) (right : Right st) where
   pub set-at : (i : ℕ) → i < st .setcount → (setRight (setAt (st .sets) i) ≡ true) × (pairsRight (setAt (st .sets) i) ≡ true)
   unfolding setAt
   set-at i h =
       let n : ℕ = st .setcount in
-      let l : i < length (take n (st .sets)) = simp length-take (omega (arith, shaped .sets-length, right .setcount)) in
+      let l : i < length (take n (st .sets)) = simp length-take (omega (arith, tables .sets-length, right .setcount)) in
       rw (getD-take n (st .sets) i pastEnd h) at (sets-at 0 (take n (st .sets)) (right .sets) i l)
 
   -- "Configuration: a mask .. existing sets only", and 0 calls no set
@@ -59,5 +59,5 @@ module _ (st : Station) (shaped : Shaped st) (right : Right st) where
   called-existing zero h = pow-pos (st .setcount)
   called-existing (suc j) h =
       let m : ℕ = st .configcount in
-      let l : j < length (take m (st .configs)) = simp length-take (omega (arith, shaped .configs-length, right .configcount)) in
+      let l : j < length (take m (st .configs)) = simp length-take (omega (arith, tables .configs-length, right .configcount)) in
       rw (getD-take m (st .configs) j 0 h) at (masks-at (st .setcount) 0 (take m (st .configs)) (right .configs) j l)

@@ -13,3 +13,11 @@ pub record Shaped (st : Station) : Type 0 where
   pub sets-length : length (st .sets) ≡ 8
   pub configs-length : length (st .configs) ≡ 64
   pub curves : ShapedSets (st .sets)
+
+-- of that, the lengths of the two tables
+pub record Tables (st : Station) : Type 0 where
+  pub sets-length : length (st .sets) ≡ 8
+  pub configs-length : length (st .configs) ≡ 64
+
+pub tables-of : {st : Station} → Shaped st → Tables st
+tables-of shaped = record { sets-length = shaped .sets-length; configs-length = shaped .configs-length }

@@ -1,0 +1,31 @@
+-- `commitment::configuration::greater` meets its contract. Assumes nothing.
+use borrow.Author.Needs.{needs}
+use borrow.Author.Tests.{not-true, not-false, lt-ltb, le-ltb}
+use Rattle.commitment.specs.Choice.{greater}
+use Rattle.commitment.proofs.configuration.greater.Statement.{statement}
+use Rattle.commitment.proofs.configuration.greater.Tie as tie
+
+usable-requires : tie.Need-usable-requires
+usable-requires c κs = search needs
+
+returns : tie.Need-returns
+unfolding greater
+returns c = λ states e. simp (← c .before .usable .ensures (c .before .before .args .sets) states e, not-true (c .before .usable .result) (c .if1 .taken))
+
+capacity-requires : tie.Need-capacity-requires
+capacity-requires c κs = search needs
+
+returns-2 : tie.Need-returns-2
+unfolding greater
+returns-2 c = λ states e.
+    let first = c .before .before .before .before in
+    simp (← first .usable .ensures (first .before .args .sets) states e, not-false (first .usable .result) (c .before .before .before .if1 .left), ← c .before .before .capacity .ensures, lt-ltb _ _ (c .if2 .taken))
+
+returns-3 : tie.Need-returns-3
+unfolding greater
+returns-3 c = λ states e.
+    let first = c .before .before .before .before in
+    simp (← first .usable .ensures (first .before .args .sets) states e, not-false (first .usable .result) (c .before .before .before .if1 .left), ← c .before .before .capacity .ensures, le-ltb _ _ (c .if2 .left))
+
+pub greater-spec : {M : Type 1} → statement M
+greater-spec = tie.close (tie.spec usable-requires returns capacity-requires returns-2 returns-3)

@@ -1,0 +1,3 @@
+// Which sets the station asks for: the setpoint held, and the configuration called.
+pub mod configuration;
+pub mod setpoint;

@@ -1,0 +1,3 @@
+-- Laws by subject, and what the functions' proofs share.
+pub mod Ready
+pub mod Steps

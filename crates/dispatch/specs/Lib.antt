@@ -1,0 +1,4 @@
+-- What the steps inside a second may take for granted, and many seconds in one call.
+pub mod Sized
+pub mod Supply
+pub mod Commit

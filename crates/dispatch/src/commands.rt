@@ -1,0 +1,119 @@
+// Step 11: the commands to each set.
+ghost use mathlib.Core.Path.{_≡_};
+ghost use Prim.Native.Nat.{_<_, _≤_};
+ghost use Rattle.rules.specs.Numbers.{has};
+ghost use Rattle.rules.specs.Commands.{started, stopped, command, everyOn, commandedAll};
+ghost use Rattle.dispatch.specs.Sized.{Switchable, SwitchableAll};
+use modes::mode::is_on;
+use rules::run::Mode;
+use rules::run::SetState;
+use rules::station::GenSet;
+
+// "go Warming, one start"
+fn start_set(genset: GenSet, state: SetState) -> SetState
+    requires { ⌜ Switchable state ⌝ }
+    ensures { λ r. ⌜ r ≡ started genset state ⌝ }
+{
+    SetState {
+        mode: Mode::Warming(genset.warmup),
+        run: state.run,
+        clock: state.clock,
+        starts: state.starts + 1,
+        stops: state.stops,
+        energy: state.energy,
+        fuel: state.fuel,
+    }
+}
+
+// "go Off, one stop", "go Cooling, one stop"
+fn stop_set(state: SetState, mode: Mode) -> SetState
+    requires { ⌜ Switchable state ⌝ }
+    ensures { λ r. ⌜ r ≡ stopped state mode ⌝ }
+{
+    SetState {
+        mode,
+        run: state.run,
+        clock: state.clock,
+        starts: state.starts,
+        stops: state.stops + 1,
+        energy: state.energy,
+        fuel: state.fuel,
+    }
+}
+
+// The command to one set; `release` where every called set is On, so that the others may go.
+fn command(genset: GenSet, state: SetState, called: bool, release: bool) -> SetState
+    requires { ⌜ Switchable state ⌝ }
+    ensures { λ r. ⌜ r ≡ command genset state called release ⌝ }
+{
+    let mode = state.mode;
+    match mode {
+        Mode::Off => {
+            if called {
+                start_set(genset, state)
+            } else {
+                state
+            }
+        }
+        Mode::Warming(_) => {
+            if called {
+                state
+            } else {
+                stop_set(state, Mode::Off)
+            }
+        }
+        Mode::On => {
+            if called {
+                state
+            } else {
+                if release {
+                    stop_set(state, Mode::Cooling(genset.cooldown))
+                } else {
+                    state
+                }
+            }
+        }
+        Mode::Cooling(_) => state,
+        Mode::Service(_) => state,
+    }
+}
+
+// Whether the mask has the set at a place.
+fn has_set(mask: u32, place: usize) -> bool
+    requires { ⌜ place < 8 ⌝ }
+    ensures { λ r. ⌜ r ≡ has mask place ⌝ }
+{
+    (mask >> place) % 2 == 1
+}
+
+// "every called set is On"
+fn every_on(states: [SetState; 8], mask: u32) -> bool
+    ensures { λ r. ⌜ r ≡ everyOn states mask ⌝ }
+{
+    let mut ok = true;
+    let mut i: usize = 0;
+    while i < 8 {
+        let state = states[i];
+        let mode = state.mode;
+        ok = ok & (!has_set(mask, i) | is_on(mode));
+        i += 1;
+    }
+    ok
+}
+
+// The commands to every set, where the mask's sets are called.
+pub(crate) fn command_all(sets: [GenSet; 8], states: [SetState; 8], mask: u32) -> [SetState; 8]
+    requires { ⌜ SwitchableAll states ⌝ }
+    ensures { λ r. ⌜ r ≡ commandedAll sets states mask ⌝ }
+{
+    let release = every_on(states, mask);
+    let mut out = states;
+    let mut i: usize = 0;
+    while i < 8 {
+        let genset = sets[i];
+        let state = states[i];
+        out[i] = command(genset, state, has_set(mask, i), release);
+        i += 1;
+    }
+    out
+}

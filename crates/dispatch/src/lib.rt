@@ -1,0 +1,7 @@
+// One second of a run, and many seconds on one judgement.
+mod commands;
+mod commit;
+mod counts;
+mod step;
+mod supply;
+mod totals;

@@ -1,0 +1,32 @@
+// The station totals: each second's watts are added to them.
+ghost use mathlib.Core.Path.{_≡_};
+ghost use Prim.Native.Nat.{_+_, _≤_};
+ghost use Rattle.rules.specs.Second.{plus};
+ghost use Rattle.dispatch.specs.Sized.{SmallTotals};
+use rules::run::Totals;
+use rules::run::Watts;
+
+// A total with a second's watts.
+fn more(total: u64, watts: u32) -> u64
+    requires { ⌜ total ≤ 15_811_200_000_000_000 ⌝ }
+    ensures { λ r. ⌜ r ≡ total + watts ⌝ }
+{
+    total + watts as u64
+}
+
+pub(crate) fn plus(totals: Totals, watts: Watts) -> Totals
+    requires { ⌜ SmallTotals totals ⌝ }
+    ensures { λ r. ⌜ r ≡ plus totals watts ⌝ }
+{
+    Totals {
+        offered: more(totals.offered, watts.offered),
+        load: more(totals.load, watts.load),
+        shed: more(totals.shed, watts.shed),
+        solar: more(totals.solar, watts.solar),
+        charge: more(totals.charge, watts.charge),
+        spill: more(totals.spill, watts.spill),
+        give: more(totals.give, watts.give),
+        diesel: more(totals.diesel, watts.diesel),
+        unserved: more(totals.unserved, watts.unserved),
+    }
+}

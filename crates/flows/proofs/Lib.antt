@@ -1,0 +1,3 @@
+-- Laws that the functions' proofs lean on.
+pub mod Room
+pub mod Shifting

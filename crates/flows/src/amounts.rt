@@ -1,0 +1,53 @@
+// Step 7: the shed amount decided, and the amounts held until their delay is over (step 3).
+ghost use mathlib.Core.Path.{_≡_};
+ghost use Prim.Native.Nat.{_≤_, min, max};
+ghost use Rattle.rules.specs.Flows.{shedDecided, decidedAfter};
+use crate::arithmetic::at_most;
+use crate::arithmetic::over;
+use crate::arithmetic::over_u64;
+use crate::arithmetic::percent;
+use rules::limits::MOST_SHED_DELAY;
+use rules::station::Control;
+
+// What solar and the shed % of the capacity leave of the load: of the whole of it, also while some is shed.
+pub fn shed_decided(control: Control, cap: u32, load: u32, solar: u32, sheddable: u32) -> u32
+    ensures { λ r. ⌜ r ≡ shedDecided control cap load solar sheddable ⌝ }
+{
+    let left = over(load, solar);
+    at_most(sheddable, over_u64(left as u64, percent(cap, control.shed)))
+}
+
+// How many amounts move: a delay of 0, which no file gives, counts as 1, and there are 60 amounts.
+fn moving(delay: u32) -> usize
+    ensures { λ r. ⌜ r ≡ min 60 (max 1 delay) ⌝ }
+{
+    if delay < 1 {
+        return 1;
+    }
+    if MOST_SHED_DELAY < delay {
+        return MOST_SHED_DELAY as usize;
+    }
+    delay as usize
+}
+
+// The oldest goes, and the new one is the last of the first `count`.
+fn moved(count: usize, amounts: [u32; 60], new: u32) -> [u32; 60]
+    requires { ⌜ (1 ≤ count) × (count ≤ 60) ⌝ }
+    ensures { λ r. ⌜ r ≡ decidedAfter count amounts new ⌝ }
+{
+    let mut after = amounts;
+    let mut i: usize = 1;
+    while i < count {
+        after[i - 1] = after[i];
+        i += 1;
+    }
+    after[count - 1] = new;
+    after
+}
+
+// The decided amounts, oldest first, once another is decided.
+pub fn decided_after(delay: u32, amounts: [u32; 60], new: u32) -> [u32; 60]
+    ensures { λ r. ⌜ r ≡ decidedAfter (max 1 delay) amounts new ⌝ }
+{
+    moved(moving(delay), amounts, new)
+}

@@ -1,0 +1,4 @@
+// The sets' modes.
+pub mod masks;
+pub mod mode;
+pub mod tick;

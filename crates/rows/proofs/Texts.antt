@@ -1,0 +1,51 @@
+-- A text that grows at the front of a buffer. Assumes nothing.
+use Prim.Native.Nat.{ℕ, _+_, _-_, _≤_, _<_, min}
+use mathlib.Core.Path.{_≡_, sym, ap, _∙_}
+use mathlib.Core.List.{List, [], _∷_, _++_, append-assoc, append-nil}
+use native.Mathlib.Omega.{arith}
+use lib.ListN.{length, take, drop, set, length-append, length-take, length-drop, drop-of-length-le}
+use lib.Seq.{drop-drop, take-at, drop-at, take-all}
+use Rattle.rows.specs.Written.{Front, placed}
+use Rattle.rows.proofs.Decimals.{stored}
+
+-- a text placed in a buffer is the bytes before it with it, and the buffer from there on
+module _ (l : List ℕ) (at : ℕ) (h : at ≤ length l) where
+  length-front : (t : List ℕ) → length (take at l ++ t) ≡ at + length t
+  length-front t = length-append (take at l) t ∙ (let e : length (take at l) ≡ at = length-take at l ∙ (let m : min at (length l) ≡ at = omega arith in m) in rw e)
+
+  placed-front : (t : List ℕ) → placed l at t ≡ (take at l ++ t) ++ drop (length (take at l ++ t)) l
+  placed-front t = rw (length-front t, append-assoc, ← drop-drop)
+
+  -- a byte stored after it
+  pub byte-after : (t : List ℕ) (b : ℕ) → at + length t < length l → set (placed l at t) (at + length t) b ≡ placed l at (t ++ (b ∷ []))
+  byte-after t b k =
+      let d : List ℕ = take at l ++ t in
+      let f : length d ≡ at + length t = length-front t in
+      let e : length (d ++ (b ∷ [])) ≡ length d + 1 = length-append d (b ∷ []) in
+      rw (placed-front t, placed-front (t ++ (b ∷ [])))
+      (ap (λ (n : ℕ). set (d ++ drop (length d) l) n b) (sym f) ∙ stored d l b (omega arith)
+      ∙ ap (λ (n : ℕ). (d ++ (b ∷ [])) ++ drop n l) (sym e)
+      ∙ ap (λ (x : List ℕ). x ++ drop (length x) l) (append-assoc (take at l) t (b ∷ [])))
+
+-- the text at the front goes on
+pub goes-on : (l a t b b′ : List ℕ) (at at′ : ℕ) → Front l a at b → at′ ≡ at + length t → b′ ≡ placed b at t → Front l (a ++ t) at′ b′
+goes-on l a t b b′ at at′ f e q =
+    let x : take at b ≡ a = rw (f .1) (take-at a (drop (length a) l) at (sym (f .0))) in
+    let y : drop at b ≡ drop (length a) l = rw (f .1) (drop-at a (drop (length a) l) at (sym (f .0))) in
+    (omega (arith, f .0, length-append a t), q ∙ rw (x, y, length-append a t, append-assoc, ← drop-drop))
+
+-- ---- the tail of a buffer that was lent and has come back
+
+pub tail-is : (l : List ℕ) (k : ℕ) → take (length l - k) (drop k l) ≡ drop k l
+tail-is l k = take-all (length l - k) (drop k l) (omega (arith, length-drop k l))
+
+pub tail-back : (l : List ℕ) (at : ℕ) (ys d : List ℕ) → ys ≡ d ++ drop (length d) (take (length l - at) (drop at l))
+    → take at l ++ (ys ++ drop (length l - at) (drop at l)) ≡ placed l at d
+tail-back l at ys d e =
+    let h : length (drop at l) ≤ length l - at = omega (arith, length-drop at l) in
+    rw (e, tail-is, drop-of-length-le (drop at l) h, append-nil)
+
+-- and a byte after what was written there
+pub tail-ended : (l : List ℕ) (at k b : ℕ) (ys d : List ℕ) → at + length d < length l → Front (take (length l - at) (drop at l)) d k ys
+    → set (take at l ++ (ys ++ drop (length l - at) (drop at l))) (at + k) b ≡ placed l at (d ++ (b ∷ []))
+tail-ended l at k b ys d h f = rw (tail-back l at ys d (f .1), f .0) (byte-after l at (omega arith) d b h)

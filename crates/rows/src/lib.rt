@@ -1,0 +1,3 @@
+// A second's row, written into the buffer that the caller lends.
+mod decimal;
+pub mod row;

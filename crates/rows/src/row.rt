@@ -1,0 +1,68 @@
+// "Each number is written after the comma already in the line buffer; a second answers the row's length, LF counted, and bytes past the row stay."
+ghost use mathlib.Core.Path.{_≡_};
+ghost use mathlib.Core.List.{[], _∷_, _++_};
+ghost use Prim.Native.Nat.{_+_, _≤_, _<_};
+ghost use lib.ListN.{length};
+ghost use Rattle.rules.specs.Bytes.{decimal, commaLine};
+ghost use Rattle.rows.specs.Written.{Front, ended, placed, RowPut};
+use crate::decimal::put_decimal;
+use rules::answers::Outcome;
+use rules::answers::Refusal;
+use rules::run::Row;
+
+// "a row never exceeds 256 bytes": 26 refuses a buffer with less room.
+const LEAST_BUFFER: usize = 256;
+
+const COMMA: u8 = 44;
+
+const LF: u8 = 10;
+
+// A number from `at` on and the byte after it: where the row goes on.
+fn put_number(number: u64, after: u8, at: usize, buffer: &mut [u8]) -> usize
+    requires { ⌜ at + length (decimal number) < length (now buffer) ⌝ }
+    ensures { λ r. ⌜ (r ≡ at + length (ended number after)) × (now (buffer .exit) ≡ placed (now (buffer .entry)) at (ended number after)) ⌝ }
+{
+    let digits = put_decimal(number, &mut buffer[at..]);
+    let end = at + digits;
+    buffer[end] = after;
+    end + 1
+}
+
+// The line of a row's thirteen numbers: its length.
+fn put_line(columns: [u32; 12], store: u64, buffer: &mut [u8]) -> usize
+    requires { ⌜ 256 ≤ length (now buffer) ⌝ }
+    ensures { λ r. ⌜ Front (now (buffer .entry)) (commaLine (columns ++ (store ∷ []))) r (now (buffer .exit)) ⌝ }
+{
+    let mut at: usize = 0;
+    let mut i: usize = 0;
+    while i < 12 {
+        at = put_number(columns[i] as u64, COMMA, at, buffer);
+        i += 1;
+    }
+    put_number(store, LF, at, buffer)
+}
+
+// A row at the front of a lent buffer.
+pub fn put_row(row: Row, buffer: &mut [u8]) -> Outcome
+    ensures { λ r. ⌜ RowPut row (now (buffer .entry)) r (now (buffer .exit)) ⌝ }
+{
+    if buffer.len() < LEAST_BUFFER {
+        return Outcome::Refused(Refusal::RowBuffer);
+    }
+    let watts = row.watts;
+    let columns = [
+        row.second,
+        watts.load,
+        watts.shed,
+        watts.solar,
+        watts.charge,
+        watts.spill,
+        watts.give,
+        watts.diesel,
+        watts.unserved,
+        row.on,
+        row.sets,
+        row.call,
+    ];
+    Outcome::Row(put_line(columns, row.store, buffer))
+}
