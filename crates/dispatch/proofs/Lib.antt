@@ -1,3 +1,4 @@
 -- Laws by subject, and what the functions' proofs share.
 pub mod Ready
 pub mod Steps
+pub mod Owed

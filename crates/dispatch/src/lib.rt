@@ -2,6 +2,7 @@
 mod commands;
 mod commit;
 mod counts;
+pub mod second;
 mod step;
 mod supply;
 mod totals;

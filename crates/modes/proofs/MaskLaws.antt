@@ -1,11 +1,11 @@
 -- A mask of the places below n with p has just those places and no bit beyond, and a loop that carries the weight of its place's
 -- bit builds it place by place. Assumes nothing.
 use Prim.Native.Nat.{ℕ, zero, suc, _+_, _-_, _*_, _/_, _%_, _^_, _≤_, _<_}
-use mathlib.Core.Path.{_≡_, refl, sym, ap, _∙_}
+use mathlib.Core.Path.{_≡_, refl, ap, _∙_}
 use mathlib.Core.Bool.{Bool, true, false}
 use native.Mathlib.Omega.{arith}
 use native.Mathlib.Decide.{decLt}
-use native.Mathlib.Nat.{not-suc-le-zero, lt-of-lt-of-le, pow-suc, div-eq-of-lt, add-div-right, add-mul-div-right, add-mul-mod-self-right}
+use native.Mathlib.Nat.{not-suc-le-zero, pow-suc, div-eq-of-lt, add-div-right, add-mul-div-right, add-mul-mod-self-right}
 use native.Mathlib.Numerals.{add-one}
 use lib.Pow.{pow-add, pow-mono, pow-pos}
 use Rattle.rules.specs.Numbers.{if_then_else_, has, maskOf}

@@ -8,10 +8,8 @@ ghost use Rattle.rows.specs.Written.{Front, ended, placed, RowPut};
 use crate::decimal::put_decimal;
 use rules::answers::Outcome;
 use rules::answers::Refusal;
+use rules::limits::LEAST_ROW_BUFFER;
 use rules::run::Row;
-
-// "a row never exceeds 256 bytes": 26 refuses a buffer with less room.
-const LEAST_BUFFER: usize = 256;
 
 const COMMA: u8 = 44;
 
@@ -46,7 +44,7 @@ fn put_line(columns: [u32; 12], store: u64, buffer: &mut [u8]) -> usize
 pub fn put_row(row: Row, buffer: &mut [u8]) -> Outcome
     ensures { λ r. ⌜ RowPut row (now (buffer .entry)) r (now (buffer .exit)) ⌝ }
 {
-    if buffer.len() < LEAST_BUFFER {
+    if buffer.len() < LEAST_ROW_BUFFER {
         return Outcome::Refused(Refusal::RowBuffer);
     }
     let watts = row.watts;

@@ -63,3 +63,12 @@ pub const MOST_TIME: u32 = 316_223_999;
 pub const MOST_KW_DIGITS: usize = 6;
 
 pub const MOST_DECIMALS: usize = 3;
+
+// "seconds done <= 316,224,000"
+pub const MOST_SECONDS: u32 = 316_224_000;
+
+// "fuel <= 15,000,000,000 x done"
+pub const MOST_FUEL_A_SECOND: u64 = 15_000_000_000;
+
+// "row buffer under 256 bytes"
+pub const LEAST_ROW_BUFFER: usize = 256;

@@ -1,0 +1,85 @@
+// One second, with a lent buffer: "A second: 25, 24, 23, 19, 20, 26."
+ghost use mathlib.Core.Path.{_≡_};
+ghost use mathlib.Core.Bool.{true};
+ghost use Rattle.rules.specs.Answers.{verdictOf};
+ghost use Rattle.rules.specs.StationRecord.{someFileGives};
+ghost use Rattle.rules.specs.RunRecord.{possible};
+ghost use Rattle.rules.specs.Second.{inputsRight, admitted, Second};
+use crate::step::step;
+use records::possible::possible;
+use rows::row::put_row;
+use rules::answers::Outcome;
+use rules::answers::Refusal;
+use rules::answers::Verdict;
+use rules::limits::LEAST_ROW_BUFFER;
+use rules::limits::MOST_POWER;
+use rules::limits::MOST_SECONDS;
+use rules::run::Handed;
+use rules::run::Inputs;
+use rules::run::Run;
+use rules::station::Station;
+use station::record::some_file_gives;
+
+// No power over its limit.
+fn inputs_right(inputs: Inputs) -> bool
+    ensures { λ r. ⌜ r ≡ inputsRight inputs ⌝ }
+{
+    (inputs.load <= MOST_POWER) & (inputs.solar <= MOST_POWER) & (inputs.sheddable <= MOST_POWER)
+}
+
+// What is asked of each second of a station and a record that were judged.
+fn admit(done: u32, inputs: Inputs, room: usize) -> Verdict
+    ensures { λ r. ⌜ verdictOf r ≡ admitted done inputs room ⌝ }
+{
+    if MOST_SECONDS <= done {
+        return Verdict::Refused(Refusal::RunEnded);
+    }
+    if !inputs_right(inputs) {
+        return Verdict::Refused(Refusal::OverLimit(0));
+    }
+    if inputs.load < inputs.sheddable {
+        return Verdict::Refused(Refusal::SheddableAboveLoad(0));
+    }
+    if room < LEAST_ROW_BUFFER {
+        return Verdict::Refused(Refusal::RowBuffer);
+    }
+    Verdict::Accepted
+}
+
+// A second whose station and record were judged before: what `second` owes.
+pub(crate) fn judged_second(st: Station, run: Run, inputs: Inputs, row: &mut [u8]) -> Handed
+    requires { ⌜ (someFileGives st ≡ true) × (possible st run ≡ true) ⌝ }
+    ensures { λ r. ⌜ Second st run inputs (now (row .entry)) r (now (row .exit)) ⌝ }
+{
+    let verdict = admit(run.done, inputs, row.len());
+    if let Verdict::Refused(refusal) = verdict {
+        return Handed {
+            answer: Outcome::Refused(refusal),
+            run,
+        };
+    }
+    let worked = step(st, run, inputs);
+    let next = worked.run;
+    let line = worked.row;
+    let answer = put_row(line, row);
+    Handed { answer, run: next }
+}
+
+// One second. A refused one hands the record back and leaves the buffer as they were.
+pub fn second(st: Station, run: Run, inputs: Inputs, row: &mut [u8]) -> Handed
+    ensures { λ r. ⌜ Second st run inputs (now (row .entry)) r (now (row .exit)) ⌝ }
+{
+    if !some_file_gives(st) {
+        return Handed {
+            answer: Outcome::Refused(Refusal::StationRecord),
+            run,
+        };
+    }
+    if !possible(st, run) {
+        return Handed {
+            answer: Outcome::Refused(Refusal::RunRecord),
+            run,
+        };
+    }
+    judged_second(st, run, inputs, row)
+}

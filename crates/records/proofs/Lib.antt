@@ -1,0 +1,3 @@
+-- Laws of the tests of a run record, and of the start.
+pub mod ZeroTests
+pub mod StartTold
