@@ -23,13 +23,13 @@ pub fn mask_called(configs: [u8; 64], called: usize) -> u32
     if called == 0 {
         return 0;
     }
-    if 64 < called {
+    if MOST_CONFIGURATIONS < called {
         return 0;
     }
     configs[called - 1] as u32
 }
 
-// A capacity above 2^53 W would be rounded before it is compared.
+// Up to 2^53 a capacity is compared as it is; above that it would be rounded first.
 fn covers(held: f64, cap: u64) -> bool
     requires { ⌜ cap ≤ 9007199254740992 ⌝ }
     ensures { λ r. ⌜ r ≡ covers held cap ⌝ }
@@ -37,7 +37,8 @@ fn covers(held: f64, cap: u64) -> bool
     held <= cap as f64
 }
 
-// Some set, and none that is barred.
+// Some set, and none that is barred: due or in Service. Which sets are so is the same for every configuration of a second, so their
+// mask is made once.
 fn usable(mask: u32, barred: u32) -> bool
     ensures { λ r. ⌜ ((sets : List GenSet) (states : List SetState) → barred ≡ barredMask sets states → r ≡ usable sets states mask) ⌝ }
 {

@@ -2,3 +2,4 @@
 pub mod Sized
 pub mod Supply
 pub mod Commit
+pub mod Seconds

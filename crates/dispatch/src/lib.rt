@@ -3,6 +3,7 @@ mod commands;
 mod commit;
 mod counts;
 pub mod second;
+pub mod seconds;
 mod step;
 mod supply;
 mod totals;
