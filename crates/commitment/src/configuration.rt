@@ -78,9 +78,9 @@ fn first_covering(
 }
 
 // A usable configuration's number and its capacity; 0 and 0 for none.
-pub struct Greatest {
-    pub number: usize,
-    pub most: u64,
+pub(crate) struct Greatest {
+    pub(crate) number: usize,
+    pub(crate) most: u64,
 }
 
 // The greater of the greatest so far and the configuration of a number; of equals the one so far.
