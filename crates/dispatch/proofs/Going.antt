@@ -63,14 +63,14 @@ inputs-from (l ∷ loads) (s ∷ solars) (x ∷ sheddables) (suc i) h = inputs-f
 -- ---- what an answer says of the definition's
 
 -- a row was written
-record Written (a : Answer Step) (size : ℕ) (after : Run) (lent left : List ℕ) : Type 0 where
-  worked : Step
-  accepts : a ≡ accepted worked
-  size-is : size ≡ length (rowText (worked .row))
-  after-is : after ≡ worked .run
-  left-is : left ≡ rowText (worked .row) ++ drop (length (rowText (worked .row))) lent
+pub record Written (a : Answer Step) (size : ℕ) (after : Run) (lent left : List ℕ) : Type 0 where
+  pub worked : Step
+  pub accepts : a ≡ accepted worked
+  pub size-is : size ≡ length (rowText (worked .row))
+  pub after-is : after ≡ worked .run
+  pub left-is : left ≡ rowText (worked .row) ++ drop (length (rowText (worked .row))) lent
 
-row-means : (a : Answer Step) (r : Run) (size : ℕ) (after : Run) (lent left : List ℕ) → accepted size ≡ lengthAnswered a → after ≡ recordHanded r a → left ≡ bufferLeft lent a → Written a size after lent left
+pub row-means : (a : Answer Step) (r : Run) (size : ℕ) (after : Run) (lent left : List ℕ) → accepted size ≡ lengthAnswered a → after ≡ recordHanded r a → left ≡ bufferLeft lent a → Written a size after lent left
 row-means (accepted s) r size after lent left e h b = record { worked = s; accepts = refl; size-is = (cc); after-is = h; left-is = b }
 row-means (refused n p) r size after lent left e h b = absurd (let z : _≡_ {A = ℕ} 0 1 = cc in omega arith)
 

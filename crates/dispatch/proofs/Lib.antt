@@ -3,3 +3,5 @@ pub mod Ready
 pub mod Steps
 pub mod Owed
 pub mod Going
+pub mod RowLength
+pub mod FromStart

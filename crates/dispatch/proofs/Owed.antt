@@ -56,14 +56,6 @@ module _ (st : Station) (r : Run) (x : Inputs) (lent : List ℕ) where
   abbrev answer : Answer Step
   answer = second st r x (length lent)
 
-  pub station-refused : someFileGives st ≡ false → answer ≡ refused 25 0
-  unfolding second
-  station-refused h = rw h
-
-  pub record-refused : someFileGives st ≡ true → possible st r ≡ false → answer ≡ refused 24 0
-  unfolding second
-  record-refused h k = rw (h, k)
-
   pub judged-is : someFileGives st ≡ true → possible st r ≡ true → answer ≡ (admitted (r .done) x (length lent) >> accepted (step st r x))
   unfolding second
   judged-is h k = passes (someFileGives st) 25 0 _ h ∙ passes (possible st r) 24 0 _ k

@@ -3,3 +3,4 @@ pub mod Sized
 pub mod Supply
 pub mod Commit
 pub mod Seconds
+pub mod Calls

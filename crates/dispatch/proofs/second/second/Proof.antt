@@ -2,7 +2,9 @@
 use mathlib.Core.Path.{_≡_, sym, _∙_}
 use borrow.Author.Tests.{not-true, not-false}
 use denote.Ref.{now}
-use Rattle.dispatch.proofs.Owed.{station-refused, record-refused, refused-owes}
+use lib.ListN.{length}
+use Rattle.rules.proofs.Edges.{second-25, second-24}
+use Rattle.dispatch.proofs.Owed.{refused-owes}
 use borrow.Author.Needs.{needs}
 use Rattle.dispatch.proofs.second.second.Statement.{statement}
 use Rattle.dispatch.proofs.second.second.Tie as tie
@@ -18,7 +20,7 @@ some-file-gives-requires c κs = search needs
 
 -- src/second.rt:73:9
 returns : tie.Need-returns
-returns c = refused-owes (c .before .before .before .args .st) (c .before .before .before .args .run) (c .before .before .before .args .inputs) (now (c .before .before .before .args .row)) _ (station-refused (c .before .before .before .args .st) (c .before .before .before .args .run) (c .before .before .before .args .inputs) (now (c .before .before .before .args .row)) (sym (c .before .some-file-gives .ensures) ∙ not-true _ (c .if1 .taken)))
+returns c = refused-owes (c .before .before .before .args .st) (c .before .before .before .args .run) (c .before .before .before .args .inputs) (now (c .before .before .before .args .row)) _ (second-25 (c .before .before .before .args .st) (c .before .before .before .args .run) (c .before .before .before .args .inputs) (length (now (c .before .before .before .args .row))) (sym (c .before .some-file-gives .ensures) ∙ not-true _ (c .if1 .taken)))
 
 -- src/second.rt:78:9
 possible-requires : tie.Need-possible-requires
@@ -26,7 +28,7 @@ possible-requires c κs = search needs
 
 -- src/second.rt:79:9
 returns-2 : tie.Need-returns-2
-returns-2 c = refused-owes (c .before .before .before .before .before .args .st) (c .before .before .before .before .before .args .run) (c .before .before .before .before .before .args .inputs) (now (c .before .before .before .before .before .args .row)) _ (record-refused (c .before .before .before .before .before .args .st) (c .before .before .before .before .before .args .run) (c .before .before .before .before .before .args .inputs) (now (c .before .before .before .before .before .args .row)) (sym (c .before .before .before .some-file-gives .ensures) ∙ not-false _ (c .before .before .if1 .left)) (sym (c .before .possible .ensures) ∙ not-true _ (c .if2 .taken)))
+returns-2 c = refused-owes (c .before .before .before .before .before .args .st) (c .before .before .before .before .before .args .run) (c .before .before .before .before .before .args .inputs) (now (c .before .before .before .before .before .args .row)) _ (second-24 (c .before .before .before .before .before .args .st) (c .before .before .before .before .before .args .run) (c .before .before .before .before .before .args .inputs) (length (now (c .before .before .before .before .before .args .row))) (sym (c .before .before .before .some-file-gives .ensures) ∙ not-false _ (c .before .before .if1 .left)) (sym (c .before .possible .ensures) ∙ not-true _ (c .if2 .taken)))
 
 -- src/second.rt:84:5
 judged-second-requires : tie.Need-judged-second-requires

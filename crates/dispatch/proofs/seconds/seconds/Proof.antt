@@ -14,7 +14,7 @@ use Rattle.rules.specs.declared.run.Run.{Run}
 use Rattle.rules.specs.Answers.{accepted, verdictOf}
 use Rattle.dispatch.specs.declared.seconds.Worked.{Worked}
 use Rattle.dispatch.specs.Seconds.{inputsOf, callsOf, SecondsWorked}
-use Rattle.dispatch.proofs.Owed.{station-refused, record-refused}
+use Rattle.rules.proofs.Edges.{second-25, second-24}
 use Rattle.dispatch.proofs.Going.{inputs-length, inputsAt, going-start, over, first-refused, endedBy, owed}
 use borrow.Author.Needs.{needs}
 use Rattle.dispatch.proofs.seconds.seconds.Statement.{statement}
@@ -59,7 +59,7 @@ none-worked-requires-2 c κs = search needs
 
 -- src/seconds.rt:116:9
 returns-2 : tie.Need-returns-2
-returns-2 c = none-owed (c .before .before .before .before .before .before .before .before .before .args .st) (now (c .before .before .before .before .before .before .before .before .before .args .loads)) (now (c .before .before .before .before .before .before .before .before .before .args .solars)) (now (c .before .before .before .before .before .before .before .before .before .args .sheddables)) (now (c .before .before .before .before .before .before .before .before .before .args .rows)) (c .before .before .before .before .before .before .before .before .before .args .run) _ _ (c .none-worked2 .ensures) (first-refused (c .before .before .before .before .before .before .before .before .before .args .st) (now (c .before .before .before .before .before .before .before .before .before .args .loads)) (now (c .before .before .before .before .before .before .before .before .before .args .solars)) (now (c .before .before .before .before .before .before .before .before .before .args .sheddables)) (now (c .before .before .before .before .before .before .before .before .before .args .rows)) (c .before .before .before .before .before .before .before .before .before .args .run) StationRecord (some _ _ (c .before .before .before .before .places .ensures ∙ sym (inputs-length (now (c .before .before .before .before .before .before .before .before .before .args .loads)) (now (c .before .before .before .before .before .before .before .before .before .args .solars)) (now (c .before .before .before .before .before .before .before .before .before .args .sheddables)))) (c .before .before .before .if1 .left)) (station-refused (c .before .before .before .before .before .before .before .before .before .args .st) (c .before .before .before .before .before .before .before .before .before .args .run) (inputsAt (now (c .before .before .before .before .before .before .before .before .before .args .loads)) (now (c .before .before .before .before .before .before .before .before .before .args .solars)) (now (c .before .before .before .before .before .before .before .before .before .args .sheddables)) 0) (now (c .before .before .before .before .before .before .before .before .before .args .rows)) (sym (c .before .before .some-file-gives .ensures) ∙ not-true _ (c .before .if2 .taken))))
+returns-2 c = none-owed (c .before .before .before .before .before .before .before .before .before .args .st) (now (c .before .before .before .before .before .before .before .before .before .args .loads)) (now (c .before .before .before .before .before .before .before .before .before .args .solars)) (now (c .before .before .before .before .before .before .before .before .before .args .sheddables)) (now (c .before .before .before .before .before .before .before .before .before .args .rows)) (c .before .before .before .before .before .before .before .before .before .args .run) _ _ (c .none-worked2 .ensures) (first-refused (c .before .before .before .before .before .before .before .before .before .args .st) (now (c .before .before .before .before .before .before .before .before .before .args .loads)) (now (c .before .before .before .before .before .before .before .before .before .args .solars)) (now (c .before .before .before .before .before .before .before .before .before .args .sheddables)) (now (c .before .before .before .before .before .before .before .before .before .args .rows)) (c .before .before .before .before .before .before .before .before .before .args .run) StationRecord (some _ _ (c .before .before .before .before .places .ensures ∙ sym (inputs-length (now (c .before .before .before .before .before .before .before .before .before .args .loads)) (now (c .before .before .before .before .before .before .before .before .before .args .solars)) (now (c .before .before .before .before .before .before .before .before .before .args .sheddables)))) (c .before .before .before .if1 .left)) (second-25 (c .before .before .before .before .before .before .before .before .before .args .st) (c .before .before .before .before .before .before .before .before .before .args .run) (inputsAt (now (c .before .before .before .before .before .before .before .before .before .args .loads)) (now (c .before .before .before .before .before .before .before .before .before .args .solars)) (now (c .before .before .before .before .before .before .before .before .before .args .sheddables)) 0) (length (now (c .before .before .before .before .before .before .before .before .before .args .rows))) (sym (c .before .before .some-file-gives .ensures) ∙ not-true _ (c .before .if2 .taken))))
 
 -- src/seconds.rt:118:9
 possible-requires : tie.Need-possible-requires
@@ -71,7 +71,7 @@ none-worked-requires-3 c κs = search needs
 
 -- src/seconds.rt:119:9
 returns-3 : tie.Need-returns-3
-returns-3 c = none-owed (c .before .before .before .before .before .before .before .before .before .before .before .args .st) (now (c .before .before .before .before .before .before .before .before .before .before .before .args .loads)) (now (c .before .before .before .before .before .before .before .before .before .before .before .args .solars)) (now (c .before .before .before .before .before .before .before .before .before .before .before .args .sheddables)) (now (c .before .before .before .before .before .before .before .before .before .before .before .args .rows)) (c .before .before .before .before .before .before .before .before .before .before .before .args .run) _ _ (c .none-worked3 .ensures) (first-refused (c .before .before .before .before .before .before .before .before .before .before .before .args .st) (now (c .before .before .before .before .before .before .before .before .before .before .before .args .loads)) (now (c .before .before .before .before .before .before .before .before .before .before .before .args .solars)) (now (c .before .before .before .before .before .before .before .before .before .before .before .args .sheddables)) (now (c .before .before .before .before .before .before .before .before .before .before .before .args .rows)) (c .before .before .before .before .before .before .before .before .before .before .before .args .run) RunRecord (some _ _ (c .before .before .before .before .before .before .places .ensures ∙ sym (inputs-length (now (c .before .before .before .before .before .before .before .before .before .before .before .args .loads)) (now (c .before .before .before .before .before .before .before .before .before .before .before .args .solars)) (now (c .before .before .before .before .before .before .before .before .before .before .before .args .sheddables)))) (c .before .before .before .before .before .if1 .left)) (record-refused (c .before .before .before .before .before .before .before .before .before .before .before .args .st) (c .before .before .before .before .before .before .before .before .before .before .before .args .run) (inputsAt (now (c .before .before .before .before .before .before .before .before .before .before .before .args .loads)) (now (c .before .before .before .before .before .before .before .before .before .before .before .args .solars)) (now (c .before .before .before .before .before .before .before .before .before .before .before .args .sheddables)) 0) (now (c .before .before .before .before .before .before .before .before .before .before .before .args .rows)) (sym (c .before .before .before .before .some-file-gives .ensures) ∙ not-false _ (c .before .before .before .if2 .left)) (sym (c .before .before .possible .ensures) ∙ not-true _ (c .before .if3 .taken))))
+returns-3 c = none-owed (c .before .before .before .before .before .before .before .before .before .before .before .args .st) (now (c .before .before .before .before .before .before .before .before .before .before .before .args .loads)) (now (c .before .before .before .before .before .before .before .before .before .before .before .args .solars)) (now (c .before .before .before .before .before .before .before .before .before .before .before .args .sheddables)) (now (c .before .before .before .before .before .before .before .before .before .before .before .args .rows)) (c .before .before .before .before .before .before .before .before .before .before .before .args .run) _ _ (c .none-worked3 .ensures) (first-refused (c .before .before .before .before .before .before .before .before .before .before .before .args .st) (now (c .before .before .before .before .before .before .before .before .before .before .before .args .loads)) (now (c .before .before .before .before .before .before .before .before .before .before .before .args .solars)) (now (c .before .before .before .before .before .before .before .before .before .before .before .args .sheddables)) (now (c .before .before .before .before .before .before .before .before .before .before .before .args .rows)) (c .before .before .before .before .before .before .before .before .before .before .before .args .run) RunRecord (some _ _ (c .before .before .before .before .before .before .places .ensures ∙ sym (inputs-length (now (c .before .before .before .before .before .before .before .before .before .before .before .args .loads)) (now (c .before .before .before .before .before .before .before .before .before .before .before .args .solars)) (now (c .before .before .before .before .before .before .before .before .before .before .before .args .sheddables)))) (c .before .before .before .before .before .if1 .left)) (second-24 (c .before .before .before .before .before .before .before .before .before .before .before .args .st) (c .before .before .before .before .before .before .before .before .before .before .before .args .run) (inputsAt (now (c .before .before .before .before .before .before .before .before .before .before .before .args .loads)) (now (c .before .before .before .before .before .before .before .before .before .before .before .args .solars)) (now (c .before .before .before .before .before .before .before .before .before .before .before .args .sheddables)) 0) (length (now (c .before .before .before .before .before .before .before .before .before .before .before .args .rows))) (sym (c .before .before .before .before .some-file-gives .ensures) ∙ not-false _ (c .before .before .before .if2 .left)) (sym (c .before .before .possible .ensures) ∙ not-true _ (c .before .if3 .taken))))
 
 -- src/seconds.rt:121:5
 judged-seconds-requires : tie.Need-judged-seconds-requires
