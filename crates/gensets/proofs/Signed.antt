@@ -1,10 +1,9 @@
--- Signed numbers of 64 bits by their distance from zero, a negative number made zero, and products. Assumes nothing.
-use mathlib.Core.Path.{_≡_, refl, subst, subst⁻¹}
+-- Signed numbers of 64 bits by their distance from zero, and a negative number made zero. Assumes nothing.
+use mathlib.Core.Path.{_≡_, refl, subst}
 use mathlib.Core.Bool.{true, false}
-use Prim.Native.Nat.{ℕ, _+_, _*_, _^_, _≤_, _<_}
-use native.Mathlib.Nat.{le-refl, le-trans, le-of-lt, lt-of-le-of-lt, mul-le-mul-left, mul-lt-mul-of-pos-right, not-suc-le-zero}
+use Prim.Native.Nat.{ℕ, _+_, _≤_, _<_}
+use native.Mathlib.Nat.{le-refl, le-trans, le-of-lt, lt-of-le-of-lt, not-suc-le-zero}
 use native.Mathlib.Omega.{arith}
-use lib.Pow.{pow-pos, pow-add}
 use lib.Dec.{T}
 use lib.IntN.{ℤ, pos, negsuc, natAbs}
 use lib.Signed.{mag, ltZ, nonNeg}
@@ -20,12 +19,6 @@ mag-le (negsuc n) = omega arith
 -- a number near enough to zero is one of 64 bits
 pub sfits : (z : ℤ) {n : ℕ} → natAbs z ≤ n → n < 9_223_372_036_854_775_808 → SFits w64 z
 sfits z h k = record { sfits = lt-of-le-of-lt (le-trans (mag-le z) h) k }
-
--- the product of two numbers of k bits has at most k + k
-pub product-fits : (k : ℕ) {a b : ℕ} → a < 2 ^ k → b < 2 ^ k → a * b < 2 ^ (k + k)
-product-fits k {a} {b} h l =
-    subst⁻¹ (λ (n : ℕ). a * b < n) (pow-add 2 k k)
-    (lt-of-le-of-lt (mul-le-mul-left a (le-of-lt l)) (mul-lt-mul-of-pos-right h (pow-pos k)))
 
 -- a negative number is made zero
 pub cut-below : (z : ℤ) → ltZ z (pos 0) ≡ true → 0 ≡ notBelowZero z

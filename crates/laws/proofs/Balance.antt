@@ -43,7 +43,7 @@ pub takes-surplus : (b : Battery) (store surplus : ℕ) → batteryTakes b store
 unfolding batteryTakes
 takes-surplus b store surplus = omega arith
 
-takes-room : (b : Battery) (store surplus : ℕ) → batteryTakes b store surplus * b .efficiency ≤ b .most - store
+pub takes-room : (b : Battery) (store surplus : ℕ) → batteryTakes b store surplus * b .efficiency ≤ b .most - store
 unfolding batteryTakes
 takes-room b store surplus =
     le-trans (mul-le-mul-right (b .efficiency) (omega arith)) (div-mul-le-self (b .most - store) (b .efficiency))

@@ -1,4 +1,5 @@
 -- Laws of the rules that the code and the claims above lean on.
+pub mod Products
 pub mod Share
 pub mod Fuel
 pub mod Balance

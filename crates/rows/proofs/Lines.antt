@@ -1,4 +1,4 @@
--- A row's line, number after number, and its length: "a row never exceeds 256 bytes". Assumes nothing.
+-- A row's line, number after number, and its length: at most 153 bytes, of the 256 that a lent buffer has at least (26). Assumes nothing.
 use Prim.Native.Nat.{ℕ, _+_, _*_, _^_, _≤_, _<_}
 use mathlib.Core.Path.{_≡_, refl, ap, _∙_}
 use mathlib.Core.List.{List, [], _∷_, _++_, append-assoc, append-nil}

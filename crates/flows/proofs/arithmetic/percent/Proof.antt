@@ -1,11 +1,11 @@
 -- `arithmetic::percent` meets its contract. Assumes nothing.
 use borrow.Author.Needs.{needs}
-use Rattle.flows.proofs.Room.{product-fits}
+use Rattle.laws.proofs.Products.{product-fits}
 use Rattle.flows.proofs.arithmetic.percent.Statement.{statement}
 use Rattle.flows.proofs.arithmetic.percent.Tie as tie
 
 mul-result : tie.Need-mul-result
-mul-result c = record { fits = product-fits (search needs) (search needs) }
+mul-result c = record { fits = product-fits 32 (search needs) (search needs) }
 
 returns : tie.Need-returns
 returns c = search needs

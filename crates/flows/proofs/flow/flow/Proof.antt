@@ -1,7 +1,7 @@
 -- `flow::flow` meets its contract. Assumes nothing.
 use borrow.Author.Needs.{needs}
 use Rattle.rules.specs.Flows.{wattsWith, wattsFor}
-use Rattle.flows.proofs.Room.{takes-room}
+use Rattle.laws.proofs.Balance.{takes-room}
 use Rattle.flows.proofs.flow.flow.Statement.{statement}
 use Rattle.flows.proofs.flow.flow.Tie as tie
 

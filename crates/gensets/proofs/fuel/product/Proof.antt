@@ -1,6 +1,6 @@
 -- `fuel::product` meets its contract: the product of two numbers below 2 ^ 32 is below 2 ^ 64. Assumes nothing.
 use borrow.Author.Needs.{needs}
-use Rattle.gensets.proofs.Signed.{product-fits}
+use Rattle.laws.proofs.Products.{product-fits}
 use Rattle.gensets.proofs.fuel.product.Statement.{statement}
 use Rattle.gensets.proofs.fuel.product.Tie as tie
 
