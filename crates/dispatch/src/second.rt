@@ -31,13 +31,15 @@ fn inputs_right(inputs: Inputs) -> bool
 fn admit(done: u32, inputs: Inputs, room: usize) -> Verdict
     ensures { λ r. ⌜ verdictOf r ≡ admitted done inputs room ⌝ }
 {
+    let load = inputs.load;
+    let sheddable = inputs.sheddable;
     if MOST_SECONDS <= done {
         return Verdict::Refused(Refusal::RunEnded);
     }
     if !inputs_right(inputs) {
         return Verdict::Refused(Refusal::OverLimit(0));
     }
-    if inputs.load < inputs.sheddable {
+    if load < sheddable {
         return Verdict::Refused(Refusal::SheddableAboveLoad(0));
     }
     if room < LEAST_ROW_BUFFER {

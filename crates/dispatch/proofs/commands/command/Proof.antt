@@ -8,89 +8,68 @@ use Rattle.rules.specs.Commands.{commandFrom, command}
 use borrow.Author.Needs.{needs}
 use Rattle.dispatch.proofs.commands.command.Statement.{statement}
 use Rattle.dispatch.proofs.commands.command.Tie as tie
-use Rattle.dispatch.proofs.commands.command.Reads as reads
-use Rattle.dispatch.proofs.commands.command.Lts as lts
-use Rattle.dispatch.proofs.commands.start_set.Reads as start-set-reads
-use Rattle.dispatch.proofs.commands.stop_set.Reads as stop-set-reads
 
 -- by the mode that the set has
 by-mode : (g : GenSet) (s : SetState) (called release : Bool) (m : Mode) (r : SetState) → s .mode ≡ m → r ≡ commandFrom g s called release m → r ≡ command g s called release
 unfolding command
 by-mode g s called release m r e h = h ∙ sym (ap (commandFrom g s called release) e)
 
--- src/commands.rt:52:16
 enum-told : tie.Need-enum-told
 enum-told c = search needs
 
--- src/commands.rt:53:17
 start-set-requires : tie.Need-start-set-requires
 start-set-requires c κs = search needs
 
--- src/commands.rt:59:16
 enum-told-2 : tie.Need-enum-told-2
 enum-told-2 c = search needs
 
--- src/commands.rt:62:17
 stop-set-requires : tie.Need-stop-set-requires
 stop-set-requires c κs = search needs
 
--- src/commands.rt:66:16
 enum-told-3 : tie.Need-enum-told-3
 enum-told-3 c = search needs
 
--- src/commands.rt:70:21
 stop-set-requires-2 : tie.Need-stop-set-requires-2
 stop-set-requires-2 c κs = search needs
 
--- src/commands.rt:76:29
 enum-told-4 : tie.Need-enum-told-4
 enum-told-4 c = search needs
 
--- src/commands.rt:77:29
 enum-told-5 : tie.Need-enum-told-5
 enum-told-5 c = search needs
 
--- src/commands.rt:45:1
 returns : tie.Need-returns
 unfolding commandFrom
 returns c = by-mode _ _ _ _ _ _ (c .before .before .enum-told .given .1) (rw (c .before .if1 .taken) (c .start-set .ensures))
 
--- src/commands.rt:45:1
 returns-2 : tie.Need-returns-2
 unfolding commandFrom
 returns-2 c = by-mode _ _ _ _ _ _ (c .before .enum-told .given .1) (rw (c .if1 .left))
 
--- src/commands.rt:45:1
 returns-3 : tie.Need-returns-3
 unfolding commandFrom
 returns-3 c = by-mode _ _ _ _ _ _ (c .before .enum-told2 .given .1) (rw (c .if2 .taken))
 
--- src/commands.rt:45:1
 returns-4 : tie.Need-returns-4
 unfolding commandFrom
 returns-4 c = by-mode _ _ _ _ _ _ (c .before .before .enum-told2 .given .1) (rw (c .before .if2 .left) (c .stop-set .ensures))
 
--- src/commands.rt:45:1
 returns-5 : tie.Need-returns-5
 unfolding commandFrom
 returns-5 c = by-mode _ _ _ _ _ _ (c .before .enum-told3 .given .1) (rw (c .if3 .taken))
 
--- src/commands.rt:45:1
 returns-6 : tie.Need-returns-6
 unfolding commandFrom
 returns-6 c = by-mode _ _ _ _ _ _ (c .before .before .before .enum-told3 .given .1) (rw (c .before .before .if3 .left, c .before .if4 .taken) (c .stop-set2 .ensures))
 
--- src/commands.rt:45:1
 returns-7 : tie.Need-returns-7
 unfolding commandFrom
 returns-7 c = by-mode _ _ _ _ _ _ (c .before .before .enum-told3 .given .1) (rw (c .before .if3 .left, c .if4 .left))
 
--- src/commands.rt:45:1
 returns-8 : tie.Need-returns-8
 unfolding commandFrom
 returns-8 c = by-mode _ _ _ _ _ _ (c .enum-told4 .given .1) refl
 
--- src/commands.rt:45:1
 returns-9 : tie.Need-returns-9
 unfolding commandFrom
 returns-9 c = by-mode _ _ _ _ _ _ (c .enum-told5 .given .1) refl

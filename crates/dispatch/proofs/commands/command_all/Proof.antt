@@ -15,11 +15,6 @@ use Rattle.dispatch.specs.Sized.{SwitchableAll}
 use Rattle.modes.proofs.Filled.{filled, whole}
 use Rattle.dispatch.proofs.commands.command_all.Statement.{statement}
 use Rattle.dispatch.proofs.commands.command_all.Tie as tie
-use Rattle.dispatch.proofs.commands.command_all.Reads as reads
-use Rattle.dispatch.proofs.commands.command_all.Lts as lts
-use Rattle.dispatch.proofs.commands.command.Reads as command-reads
-use Rattle.dispatch.proofs.commands.every_on.Reads as every-on-reads
-use Rattle.dispatch.proofs.commands.has_set.Reads as has-set-reads
 
 -- the set at a place after the commands
 abbrev commandedAt : List GenSet → List SetState → ℕ → ℕ → SetState
@@ -32,63 +27,49 @@ Inv-loop mask sets states release out₀ i₀ out i =
 abbrev μ-loop : tie.MeasureT-loop
 μ-loop mask sets states release out₀ i₀ out i = 8 - i
 
--- src/commands.rt:109:9
 every-on-requires : tie.Need-every-on-requires Inv-loop μ-loop
 every-on-requires c κs = search needs
 
--- src/commands.rt:112:5
 loop-holds : tie.Need-loop-holds Inv-loop μ-loop
 unfolding tab
 loop-holds c = (c .before .pre, c .every-on .ensures, omega arith, search needs, refl)
 
--- src/commands.rt:113:22
 mul-genset : tie.Need-mul-genset Inv-loop μ-loop
 mul-genset c = omega arith
 
--- src/commands.rt:113:22
 array-copy-out-genset : tie.Need-array-copy-out-genset Inv-loop μ-loop
 array-copy-out-genset c = omega arith
 
--- src/commands.rt:114:21
 mul-state : tie.Need-mul-state Inv-loop μ-loop
 mul-state c = omega arith
 
--- src/commands.rt:114:21
 array-copy-out-state : tie.Need-array-copy-out-state Inv-loop μ-loop
 array-copy-out-state c = omega arith
 
--- src/commands.rt:115:41
 has-set-requires : tie.Need-has-set-requires Inv-loop μ-loop
 has-set-requires c κs = search needs
 
--- src/commands.rt:115:18
 command-requires : tie.Need-command-requires Inv-loop μ-loop
 unfolding stateAt
 command-requires c κs = c .before .before .before .before .loop .inv .0 .each (c .before .before .before .before .loop .i) (search needs)
 
--- src/commands.rt:115:9
 mul-out : tie.Need-mul-out Inv-loop μ-loop
 mul-out c = omega arith
 
--- src/commands.rt:115:9
 array-set-from-out : tie.Need-array-set-from-out Inv-loop μ-loop
 array-set-from-out c = omega arith
 
--- src/commands.rt:116:9
 add-i : tie.Need-add-i Inv-loop μ-loop
 add-i c = omega arith
 
--- src/commands.rt:112:5
 loop-less : tie.Need-loop-less Inv-loop μ-loop
 loop-less c = omega arith
 
--- src/commands.rt:112:5
 loop-again : tie.Need-loop-again Inv-loop μ-loop
 unfolding setAt stateAt pastEnd
 loop-again c =
     (c .before .before .before .before .before .loop .inv .0, c .before .before .before .before .before .loop .inv .1, omega arith, simp length-set (c .before .before .before .before .before .loop .inv .3), filled _ _ (c .before .before .before .before .before .loop .i) (c .before .before .before .before .before .loop .inv .4) _ (omega (arith, c .before .before .before .before .before .loop .inv .3)) (c .command .ensures ∙ rw (c .before .has-set .ensures, c .before .before .before .before .before .loop .inv .1)))
 
--- src/commands.rt:105:1
 returns : tie.Need-returns Inv-loop μ-loop
 unfolding commandedAll
 returns c = whole _ _ (c .before .loop .i) (c .before .loop .inv .4) 8 (c .before .loop .inv .3) (omega arith) (omega arith)

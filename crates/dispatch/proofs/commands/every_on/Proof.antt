@@ -12,10 +12,6 @@ use Rattle.rules.specs.Commands.{everyOn}
 use Rattle.rules.proofs.Tests.{all-turn}
 use Rattle.dispatch.proofs.commands.every_on.Statement.{statement}
 use Rattle.dispatch.proofs.commands.every_on.Tie as tie
-use Rattle.dispatch.proofs.commands.every_on.Reads as reads
-use Rattle.dispatch.proofs.commands.every_on.Lts as lts
-use Rattle.dispatch.proofs.commands.has_set.Reads as has-set-reads
-use Rattle.modes.proofs.mode.is_on.Reads as is-on-reads
 
 -- the set at a place is not called, or is On
 abbrev ready : List SetState → ℕ → ℕ → Bool
@@ -27,41 +23,32 @@ Inv-loop mask states ok₀ i₀ ok i = (i ≤ 8) × (ok ≡ allTo i (ready state
 abbrev μ-loop : tie.MeasureT-loop
 μ-loop mask states ok₀ i₀ ok i = 8 - i
 
--- src/commands.rt:95:5
 loop-holds : tie.Need-loop-holds Inv-loop μ-loop
 unfolding allTo
 loop-holds c = (omega arith, refl)
 
--- src/commands.rt:96:21
 mul-state : tie.Need-mul-state Inv-loop μ-loop
 mul-state c = search needs
 
--- src/commands.rt:96:21
 array-copy-out-state : tie.Need-array-copy-out-state Inv-loop μ-loop
 array-copy-out-state c = search needs
 
--- src/commands.rt:98:21
 has-set-requires : tie.Need-has-set-requires Inv-loop μ-loop
 has-set-requires c κs = search needs
 
--- src/commands.rt:98:40
 is-on-requires : tie.Need-is-on-requires Inv-loop μ-loop
 is-on-requires c κs = search needs
 
--- src/commands.rt:99:9
 add-i : tie.Need-add-i Inv-loop μ-loop
 add-i c = search needs
 
--- src/commands.rt:95:5
 loop-less : tie.Need-loop-less Inv-loop μ-loop
 loop-less c = search needs
 
--- src/commands.rt:95:5
 loop-again : tie.Need-loop-again Inv-loop μ-loop
 unfolding stateAt
 loop-again c = (omega arith, all-turn _ (c .before .before .before .before .loop .i) _ _ (c .before .before .before .before .loop .inv .1) (rw (c .before .has-set .ensures, c .is-on .ensures)))
 
--- src/commands.rt:90:1
 returns : tie.Need-returns Inv-loop μ-loop
 unfolding everyOn
 returns c = let e : c .before .loop .i ≡ 8 = omega arith in rw e at (c .before .loop .inv .1)

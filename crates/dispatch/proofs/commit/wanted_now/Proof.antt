@@ -4,27 +4,19 @@ use Rattle.dispatch.proofs.Ready.{wanted-small}
 use borrow.Author.Needs.{needs}
 use Rattle.dispatch.proofs.commit.wanted_now.Statement.{statement}
 use Rattle.dispatch.proofs.commit.wanted_now.Tie as tie
-use Rattle.dispatch.proofs.commit.wanted_now.Reads as reads
-use Rattle.dispatch.proofs.commit.wanted_now.Lts as lts
-use Rattle.commitment.proofs.setpoint.wanted_for.Reads as wanted-for-reads
 
--- src/commit.rt:23:16
 sub-rest : tie.Need-sub-rest
 sub-rest c = search needs
 
--- src/commit.rt:23:16
 sub-rest-2 : tie.Need-sub-rest-2
 sub-rest-2 c = search needs
 
--- src/commit.rt:24:5
 wanted-for-requires : tie.Need-wanted-for-requires
 wanted-for-requires c κs = search needs
 
--- src/commit.rt:24:5
 cast-result : tie.Need-cast-result
 cast-result c = omega (arith, c .wanted-for .ensures, wanted-small (c .before .before .before .args .control) (c .before .before .before .args .watts) (c .before .before .before .args .sheddable) (c .before .before .before .pre))
 
--- src/commit.rt:19:1
 returns : tie.Need-returns
 returns c = search needs
 

@@ -22,10 +22,6 @@ use Rattle.gensets.proofs.FuelFacts.{rate-accepted}
 use Rattle.dispatch.specs.Sized.{Countable}
 use Rattle.dispatch.proofs.counts.count.Statement.{statement}
 use Rattle.dispatch.proofs.counts.count.Tie as tie
-use Rattle.dispatch.proofs.counts.count.Reads as reads
-use Rattle.dispatch.proofs.counts.count.Lts as lts
-use Rattle.gensets.proofs.fuel.fuel_rate.Reads as fuel-rate-reads
-use Rattle.modes.proofs.mode.is_on.Reads as is-on-reads
 
 module _ (g : GenSet) (s : SetState) (power : ℕ) (h : Countable g s power) (is-on : isOn (s .mode) ≡ true) where
   rated : rateOfSet g power ≡ accepted (fuelRate g power)

@@ -21,10 +21,6 @@ use Rattle.dispatch.specs.Sized.{Countable, CountableAll}
 use Rattle.modes.proofs.Filled.{filled, whole}
 use Rattle.dispatch.proofs.counts.count_all.Statement.{statement}
 use Rattle.dispatch.proofs.counts.count_all.Tie as tie
-use Rattle.dispatch.proofs.counts.count_all.Reads as reads
-use Rattle.dispatch.proofs.counts.count_all.Lts as lts
-use Rattle.dispatch.proofs.counts.count.Reads as count-reads
-use Rattle.gensets.proofs.share.shares.Reads as shares-reads
 
 -- the set at a place after the second
 abbrev countedAt : List GenSet → List SetState → ℕ → ℕ → ℕ → SetState
@@ -53,62 +49,48 @@ Inv-loop mask diesel sets states watts out₀ i₀ out i =
 abbrev μ-loop : tie.MeasureT-loop
 μ-loop mask diesel sets states watts out₀ i₀ out i = 8 - i
 
--- src/counts.rt:42:9
 shares-requires : tie.Need-shares-requires Inv-loop μ-loop
 shares-requires c κs = search needs
 
--- src/counts.rt:46:5
 loop-holds : tie.Need-loop-holds Inv-loop μ-loop
 unfolding tab
 loop-holds c =
     (c .before .before .pre, shared _ _ _ _ (c .before .before .pre) _ (c .before .shares .ensures .1), omega arith, search needs, refl)
 
--- src/counts.rt:47:22
 mul-genset : tie.Need-mul-genset Inv-loop μ-loop
 mul-genset c = omega arith
 
--- src/counts.rt:47:22
 array-copy-out-genset : tie.Need-array-copy-out-genset Inv-loop μ-loop
 array-copy-out-genset c = omega arith
 
--- src/counts.rt:48:21
 mul-state : tie.Need-mul-state Inv-loop μ-loop
 mul-state c = omega arith
 
--- src/counts.rt:48:21
 array-copy-out-state : tie.Need-array-copy-out-state Inv-loop μ-loop
 array-copy-out-state c = omega arith
 
--- src/counts.rt:49:39
 mul-count : tie.Need-mul-count Inv-loop μ-loop
 mul-count c = omega arith
 
--- src/counts.rt:49:39
 array-read-count : tie.Need-array-read-count Inv-loop μ-loop
 array-read-count c = omega (arith, simp length-tab at (ap length (c .before .before .before .loop .inv .1)))
 
--- src/counts.rt:49:18
 count-requires : tie.Need-count-requires Inv-loop μ-loop
 unfolding setAt stateAt pastEnd
 count-requires c κs = countable _ _ _ _ (c .before .before .before .loop .inv .0) _ (c .before .before .before .loop .inv .1) (c .before .before .before .loop .i) (search needs)
 
--- src/counts.rt:49:9
 mul-out : tie.Need-mul-out Inv-loop μ-loop
 mul-out c = omega arith
 
--- src/counts.rt:49:9
 array-set-from-out : tie.Need-array-set-from-out Inv-loop μ-loop
 array-set-from-out c = omega arith
 
--- src/counts.rt:50:9
 add-i : tie.Need-add-i Inv-loop μ-loop
 add-i c = omega arith
 
--- src/counts.rt:46:5
 loop-less : tie.Need-loop-less Inv-loop μ-loop
 loop-less c = omega arith
 
--- src/counts.rt:46:5
 loop-again : tie.Need-loop-again Inv-loop μ-loop
 unfolding setAt stateAt pastEnd
 loop-again c =
@@ -116,7 +98,6 @@ loop-again c =
     let e = power-is _ _ _ _ (c .before .before .before .before .loop .inv .0) _ (c .before .before .before .before .loop .inv .1) (c .before .before .before .before .loop .i) l in
     (c .before .before .before .before .loop .inv .0, c .before .before .before .before .loop .inv .1, omega arith, simp length-set (c .before .before .before .before .loop .inv .3), filled _ _ (c .before .before .before .before .loop .i) (c .before .before .before .before .loop .inv .4) _ (omega (arith, c .before .before .before .before .loop .inv .3)) (c .count .ensures ∙ rw e))
 
--- src/counts.rt:38:1
 returns : tie.Need-returns Inv-loop μ-loop
 unfolding countedAll
 returns c = whole _ _ (c .before .loop .i) (c .before .loop .inv .4) 8 (c .before .loop .inv .3) (omega arith) (omega arith)

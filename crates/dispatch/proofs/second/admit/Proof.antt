@@ -6,33 +6,24 @@ use Rattle.dispatch.proofs.Owed.{run-ended, inputs-over, sheddable-abov
 use borrow.Author.Needs.{needs}
 use Rattle.dispatch.proofs.second.admit.Statement.{statement}
 use Rattle.dispatch.proofs.second.admit.Tie as tie
-use Rattle.dispatch.proofs.second.admit.Reads as reads
-use Rattle.dispatch.proofs.second.admit.Lts as lts
-use Rattle.dispatch.proofs.second.inputs_right.Reads as inputs-right-reads
 
--- src/second.rt:35:9
 returns : tie.Need-returns
 returns c = run-ended (c .before .args .done) (c .before .args .inputs) (c .before .args .room) (c .if1 .taken)
 
--- src/second.rt:37:9
 inputs-right-requires : tie.Need-inputs-right-requires
 inputs-right-requires c κs = search needs
 
--- src/second.rt:38:9
 returns-2 : tie.Need-returns-2
 returns-2 c = inputs-over (c .before .before .before .args .done) (c .before .before .before .args .inputs) (c .before .before .before .args .room) (omega arith) (sym (c .before .inputs-right .ensures) ∙ not-true _ (c .if2 .taken))
 
--- src/second.rt:41:9
 returns-3 : tie.Need-returns-3
-returns-3 c = sheddable-above (c .before .before .before .before .before .args .done) (c .before .before .before .before .before .args .inputs) (c .before .before .before .before .before .args .room) (omega arith) (sym (c .before .before .before .inputs-right .ensures) ∙ not-false _ (c .before .before .if2 .left)) (c .if3 .taken)
+returns-3 c = sheddable-above (c .before .before .before .before .args .done) (c .before .before .before .before .args .inputs) (c .before .before .before .before .args .room) (omega arith) (sym (c .before .before .inputs-right .ensures) ∙ not-false _ (c .before .if2 .left)) (c .if3 .taken)
 
--- src/second.rt:44:9
 returns-4 : tie.Need-returns-4
-returns-4 c = buffer-short (c .before .before .before .before .before .before .args .done) (c .before .before .before .before .before .before .args .inputs) (c .before .before .before .before .before .before .args .room) (omega arith) (sym (c .before .before .before .before .inputs-right .ensures) ∙ not-false _ (c .before .before .before .if2 .left)) (omega arith) (c .if4 .taken)
+returns-4 c = buffer-short (c .before .before .before .before .before .args .done) (c .before .before .before .before .before .args .inputs) (c .before .before .before .before .before .args .room) (omega arith) (sym (c .before .before .before .inputs-right .ensures) ∙ not-false _ (c .before .before .if2 .left)) (omega arith) (c .if4 .taken)
 
--- src/second.rt:31:1
 returns-5 : tie.Need-returns-5
-returns-5 c = none-refuses (c .before .before .before .before .before .before .args .done) (c .before .before .before .before .before .before .args .inputs) (c .before .before .before .before .before .before .args .room) (omega arith) (sym (c .before .before .before .before .inputs-right .ensures) ∙ not-false _ (c .before .before .before .if2 .left)) (omega arith) (omega arith)
+returns-5 c = none-refuses (c .before .before .before .before .before .args .done) (c .before .before .before .before .before .args .inputs) (c .before .before .before .before .before .args .room) (omega arith) (sym (c .before .before .before .inputs-right .ensures) ∙ not-false _ (c .before .before .if2 .left)) (omega arith) (omega arith)
 
 pub admit-spec : {M : Type 1} → statement M
 admit-spec =

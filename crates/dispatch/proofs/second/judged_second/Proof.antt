@@ -7,40 +7,28 @@ use Rattle.dispatch.proofs.Owed.{refused-owes, accepted-owes, late-refu
 use borrow.Author.Needs.{needs}
 use Rattle.dispatch.proofs.second.judged_second.Statement.{statement}
 use Rattle.dispatch.proofs.second.judged_second.Tie as tie
-use Rattle.dispatch.proofs.second.judged_second.Reads as reads
-use Rattle.dispatch.proofs.second.judged_second.Lts as lts
-use Rattle.dispatch.proofs.second.admit.Reads as admit-reads
-use Rattle.dispatch.proofs.step.step.Reads as step-reads
-use Rattle.rows.proofs.row.put_row.Reads as put-row-reads
 
--- src/second.rt:54:9
 admit-requires : tie.Need-admit-requires
 admit-requires c κs = search needs
 
--- src/second.rt:55:29
 enum-known-verdict : tie.Need-enum-known-verdict
 enum-known-verdict c = search needs
 
--- src/second.rt:56:9
 returns : tie.Need-returns
 returns c = refused-owes (c .before .before .before .before .before .args .st) (c .before .before .before .before .before .args .run) (c .before .before .before .before .before .args .inputs) (now (c .before .before .before .before .before .args .row)) _ (late-refused (c .before .before .before .before .before .args .st) (c .before .before .before .before .before .args .run) (c .before .before .before .before .before .args .inputs) (now (c .before .before .before .before .before .args .row)) (c .before .before .before .before .before .pre .0) (c .before .before .before .before .before .pre .1) _ (c .before .before .before .admit .ensures) _ (c .before .verdict .given .1))
 
 enum-told : tie.Need-enum-told
 enum-told c = search needs
 
--- src/second.rt:61:9
 step-requires : tie.Need-step-requires
 step-requires c κs = is-admitted (c .before .before .before .before .args .st) (c .before .before .before .before .args .run) (c .before .before .before .before .args .inputs) (now (c .before .before .before .before .args .row)) (c .before .before .before .before .pre .0) (c .before .before .before .before .pre .1) _ (c .before .before .admit .ensures) (c .enum-told .given .1)
 
--- src/second.rt:64:9
 put-row-requires : tie.Need-put-row-requires
 put-row-requires c κs = search needs
 
--- src/second.rt:50:1
 same-length : tie.Need-same-length
 same-length c = search needs
 
--- src/second.rt:50:1
 returns-2 : tie.Need-returns-2
 returns-2 c =
     let put = row-put _ _ _ _ (has-room (c .before .before .before .before .before .before .before .before .before .before .before .args .st) (c .before .before .before .before .before .before .before .before .before .before .before .args .run) (c .before .before .before .before .before .before .before .before .before .before .before .args .inputs) (now (c .before .before .before .before .before .before .before .before .before .before .before .args .row)) (c .before .before .before .before .before .before .before .before .before .before .before .pre .0) (c .before .before .before .before .before .before .before .before .before .before .before .pre .1) _ (c .before .before .before .before .before .before .before .before .before .admit .ensures) (c .before .before .before .before .before .before .before .enum-told .given .1)) (c .before .before .put-row .ensures) in

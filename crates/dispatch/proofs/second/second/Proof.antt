@@ -8,37 +8,25 @@ use Rattle.dispatch.proofs.Owed.{refused-owes}
 use borrow.Author.Needs.{needs}
 use Rattle.dispatch.proofs.second.second.Statement.{statement}
 use Rattle.dispatch.proofs.second.second.Tie as tie
-use Rattle.dispatch.proofs.second.second.Reads as reads
-use Rattle.dispatch.proofs.second.second.Lts as lts
-use Rattle.dispatch.proofs.second.judged_second.Reads as judged-second-reads
-use Rattle.records.proofs.possible.possible.Reads as possible-reads
-use Rattle.station.proofs.record.some_file_gives.Reads as some-file-gives-reads
 
--- src/second.rt:72:9
 some-file-gives-requires : tie.Need-some-file-gives-requires
 some-file-gives-requires c κs = search needs
 
--- src/second.rt:73:9
 returns : tie.Need-returns
 returns c = refused-owes (c .before .before .before .args .st) (c .before .before .before .args .run) (c .before .before .before .args .inputs) (now (c .before .before .before .args .row)) _ (second-25 (c .before .before .before .args .st) (c .before .before .before .args .run) (c .before .before .before .args .inputs) (length (now (c .before .before .before .args .row))) (sym (c .before .some-file-gives .ensures) ∙ not-true _ (c .if1 .taken)))
 
--- src/second.rt:78:9
 possible-requires : tie.Need-possible-requires
 possible-requires c κs = search needs
 
--- src/second.rt:79:9
 returns-2 : tie.Need-returns-2
 returns-2 c = refused-owes (c .before .before .before .before .before .args .st) (c .before .before .before .before .before .args .run) (c .before .before .before .before .before .args .inputs) (now (c .before .before .before .before .before .args .row)) _ (second-24 (c .before .before .before .before .before .args .st) (c .before .before .before .before .before .args .run) (c .before .before .before .before .before .args .inputs) (length (now (c .before .before .before .before .before .args .row))) (sym (c .before .before .before .some-file-gives .ensures) ∙ not-false _ (c .before .before .if1 .left)) (sym (c .before .possible .ensures) ∙ not-true _ (c .if2 .taken)))
 
--- src/second.rt:84:5
 judged-second-requires : tie.Need-judged-second-requires
 judged-second-requires c κs = ((sym (c .before .before .before .before .some-file-gives .ensures) ∙ not-false _ (c .before .before .before .if1 .left)), sym (c .before .before .possible .ensures) ∙ not-false _ (c .before .if2 .left))
 
--- src/second.rt:69:1
 same-length : tie.Need-same-length
 same-length c = search needs
 
--- src/second.rt:69:1
 returns-3 : tie.Need-returns-3
 returns-3 c = search needs
 

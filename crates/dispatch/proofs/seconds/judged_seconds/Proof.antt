@@ -16,10 +16,6 @@ use Rattle.dispatch.specs.Seconds.{inputsOf}
 use Rattle.dispatch.proofs.Going.{rest-is, back-is, inputs-length, inputsAt, Going, going-start, over, stops, goes, stays, owed}
 use Rattle.dispatch.proofs.seconds.judged_seconds.Statement.{statement}
 use Rattle.dispatch.proofs.seconds.judged_seconds.Tie as tie
-use Rattle.dispatch.proofs.seconds.judged_seconds.Reads as reads
-use Rattle.dispatch.proofs.seconds.judged_seconds.Lts as lts
-use Rattle.dispatch.proofs.second.judged_second.Reads as judged-second-reads
-use Rattle.dispatch.proofs.seconds.places.Reads as places-reads
 use Rattle.rules.specs.declared.answers.Verdict.the-variants.{Accepted}
 
 abbrev Inv-loop : tie.InvT-loop

@@ -19,13 +19,6 @@ use Rattle.dispatch.proofs.Going.{inputs-length, inputsAt, going-start,
 use borrow.Author.Needs.{needs}
 use Rattle.dispatch.proofs.seconds.seconds.Statement.{statement}
 use Rattle.dispatch.proofs.seconds.seconds.Tie as tie
-use Rattle.dispatch.proofs.seconds.seconds.Reads as reads
-use Rattle.dispatch.proofs.seconds.seconds.Lts as lts
-use Rattle.dispatch.proofs.seconds.judged_seconds.Reads as judged-seconds-reads
-use Rattle.dispatch.proofs.seconds.none_worked.Reads as none-worked-reads
-use Rattle.dispatch.proofs.seconds.places.Reads as places-reads
-use Rattle.records.proofs.possible.possible.Reads as possible-reads
-use Rattle.station.proofs.record.some_file_gives.Reads as some-file-gives-reads
 
 -- some place is asked
 some : (n m : ℕ) → n ≡ m → (n ≡ 0 → ⊥) → 0 < m
@@ -37,51 +30,39 @@ none-owed : (st : Station) (loads solars sheddables lent : List ℕ) (r : Run) (
     → callsOf st r (inputsOf loads solars sheddables) (length lent) ≡ endedBy r 0 [] (verdictOf verdict) → SecondsWorked st r loads solars sheddables lent w lent
 none-owed st loads solars sheddables lent r w verdict e c = rw e (owed st loads solars sheddables lent r lent lent r 0 0 verdict (omega arith) c refl)
 
--- src/seconds.rt:112:8
 places-requires : tie.Need-places-requires
 places-requires c κs = search needs
 
--- src/seconds.rt:113:9
 none-worked-requires : tie.Need-none-worked-requires
 none-worked-requires c κs = search needs
 
--- src/seconds.rt:113:9
 returns : tie.Need-returns
 returns c = none-owed (c .before .before .before .before .before .before .before .args .st) (now (c .before .before .before .before .before .before .before .args .loads)) (now (c .before .before .before .before .before .before .before .args .solars)) (now (c .before .before .before .before .before .before .before .args .sheddables)) (now (c .before .before .before .before .before .before .before .args .rows)) (c .before .before .before .before .before .before .before .args .run) _ _ (c .none-worked .ensures) (over (c .before .before .before .before .before .before .before .args .st) (now (c .before .before .before .before .before .before .before .args .loads)) (now (c .before .before .before .before .before .before .before .args .solars)) (now (c .before .before .before .before .before .before .before .args .sheddables)) (now (c .before .before .before .before .before .before .before .args .rows)) (c .before .before .before .before .before .before .before .args .run) (now (c .before .before .before .before .before .before .before .args .rows)) (c .before .before .before .before .before .before .before .args .run) 0 0 (going-start (c .before .before .before .before .before .before .before .args .st) (now (c .before .before .before .before .before .before .before .args .loads)) (now (c .before .before .before .before .before .before .before .args .solars)) (now (c .before .before .before .before .before .before .before .args .sheddables)) (now (c .before .before .before .before .before .before .before .args .rows)) (c .before .before .before .before .before .before .before .args .run)) (omega (arith, c .before .before .places .ensures, c .before .if1 .taken, inputs-length (now (c .before .before .before .before .before .before .before .args .loads)) (now (c .before .before .before .before .before .before .before .args .solars)) (now (c .before .before .before .before .before .before .before .args .sheddables)))))
 
--- src/seconds.rt:115:9
 some-file-gives-requires : tie.Need-some-file-gives-requires
 some-file-gives-requires c κs = search needs
 
--- src/seconds.rt:116:9
 none-worked-requires-2 : tie.Need-none-worked-requires-2
 none-worked-requires-2 c κs = search needs
 
--- src/seconds.rt:116:9
 returns-2 : tie.Need-returns-2
 returns-2 c = none-owed (c .before .before .before .before .before .before .before .before .before .args .st) (now (c .before .before .before .before .before .before .before .before .before .args .loads)) (now (c .before .before .before .before .before .before .before .before .before .args .solars)) (now (c .before .before .before .before .before .before .before .before .before .args .sheddables)) (now (c .before .before .before .before .before .before .before .before .before .args .rows)) (c .before .before .before .before .before .before .before .before .before .args .run) _ _ (c .none-worked2 .ensures) (first-refused (c .before .before .before .before .before .before .before .before .before .args .st) (now (c .before .before .before .before .before .before .before .before .before .args .loads)) (now (c .before .before .before .before .before .before .before .before .before .args .solars)) (now (c .before .before .before .before .before .before .before .before .before .args .sheddables)) (now (c .before .before .before .before .before .before .before .before .before .args .rows)) (c .before .before .before .before .before .before .before .before .before .args .run) StationRecord (some _ _ (c .before .before .before .before .places .ensures ∙ sym (inputs-length (now (c .before .before .before .before .before .before .before .before .before .args .loads)) (now (c .before .before .before .before .before .before .before .before .before .args .solars)) (now (c .before .before .before .before .before .before .before .before .before .args .sheddables)))) (c .before .before .before .if1 .left)) (second-25 (c .before .before .before .before .before .before .before .before .before .args .st) (c .before .before .before .before .before .before .before .before .before .args .run) (inputsAt (now (c .before .before .before .before .before .before .before .before .before .args .loads)) (now (c .before .before .before .before .before .before .before .before .before .args .solars)) (now (c .before .before .before .before .before .before .before .before .before .args .sheddables)) 0) (length (now (c .before .before .before .before .before .before .before .before .before .args .rows))) (sym (c .before .before .some-file-gives .ensures) ∙ not-true _ (c .before .if2 .taken))))
 
--- src/seconds.rt:118:9
 possible-requires : tie.Need-possible-requires
 possible-requires c κs = search needs
 
--- src/seconds.rt:119:9
 none-worked-requires-3 : tie.Need-none-worked-requires-3
 none-worked-requires-3 c κs = search needs
 
--- src/seconds.rt:119:9
 returns-3 : tie.Need-returns-3
 returns-3 c = none-owed (c .before .before .before .before .before .before .before .before .before .before .before .args .st) (now (c .before .before .before .before .before .before .before .before .before .before .before .args .loads)) (now (c .before .before .before .before .before .before .before .before .before .before .before .args .solars)) (now (c .before .before .before .before .before .before .before .before .before .before .before .args .sheddables)) (now (c .before .before .before .before .before .before .before .before .before .before .before .args .rows)) (c .before .before .before .before .before .before .before .before .before .before .before .args .run) _ _ (c .none-worked3 .ensures) (first-refused (c .before .before .before .before .before .before .before .before .before .before .before .args .st) (now (c .before .before .before .before .before .before .before .before .before .before .before .args .loads)) (now (c .before .before .before .before .before .before .before .before .before .before .before .args .solars)) (now (c .before .before .before .before .before .before .before .before .before .before .before .args .sheddables)) (now (c .before .before .before .before .before .before .before .before .before .before .before .args .rows)) (c .before .before .before .before .before .before .before .before .before .before .before .args .run) RunRecord (some _ _ (c .before .before .before .before .before .before .places .ensures ∙ sym (inputs-length (now (c .before .before .before .before .before .before .before .before .before .before .before .args .loads)) (now (c .before .before .before .before .before .before .before .before .before .before .before .args .solars)) (now (c .before .before .before .before .before .before .before .before .before .before .before .args .sheddables)))) (c .before .before .before .before .before .if1 .left)) (second-24 (c .before .before .before .before .before .before .before .before .before .before .before .args .st) (c .before .before .before .before .before .before .before .before .before .before .before .args .run) (inputsAt (now (c .before .before .before .before .before .before .before .before .before .before .before .args .loads)) (now (c .before .before .before .before .before .before .before .before .before .before .before .args .solars)) (now (c .before .before .before .before .before .before .before .before .before .before .before .args .sheddables)) 0) (length (now (c .before .before .before .before .before .before .before .before .before .before .before .args .rows))) (sym (c .before .before .before .before .some-file-gives .ensures) ∙ not-false _ (c .before .before .before .if2 .left)) (sym (c .before .before .possible .ensures) ∙ not-true _ (c .before .if3 .taken))))
 
--- src/seconds.rt:121:5
 judged-seconds-requires : tie.Need-judged-seconds-requires
 judged-seconds-requires c κs = ((sym (c .before .before .before .before .some-file-gives .ensures) ∙ not-false _ (c .before .before .before .if2 .left)), sym (c .before .before .possible .ensures) ∙ not-false _ (c .before .if3 .left))
 
--- src/seconds.rt:101:1
 same-length : tie.Need-same-length
 same-length c = search needs
 
--- src/seconds.rt:101:1
 returns-4 : tie.Need-returns-4
 returns-4 c = search needs
 

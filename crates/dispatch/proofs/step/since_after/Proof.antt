@@ -2,14 +2,10 @@
 use borrow.Author.Tests.{eq-eqb, ne-eqb}
 use Rattle.dispatch.proofs.step.since_after.Statement.{statement}
 use Rattle.dispatch.proofs.step.since_after.Tie as tie
-use Rattle.dispatch.proofs.step.since_after.Reads as reads
-use Rattle.dispatch.proofs.step.since_after.Lts as lts
 
--- src/step.rt:18:1
 returns : tie.Need-returns
 returns c = rw (eq-eqb _ _ (c .if1 .taken))
 
--- src/step.rt:18:1
 returns-2 : tie.Need-returns-2
 returns-2 c = rw (ne-eqb _ _ (c .if1 .left))
 

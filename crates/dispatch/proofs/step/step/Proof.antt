@@ -10,13 +10,6 @@ use Rattle.dispatch.proofs.Steps.{call-now, step-now}
 use borrow.Author.Needs.{needs}
 use Rattle.dispatch.proofs.step.step.Statement.{statement}
 use Rattle.dispatch.proofs.step.step.Tie as tie
-use Rattle.dispatch.proofs.step.step.Reads as reads
-use Rattle.dispatch.proofs.step.step.Lts as lts
-use Rattle.dispatch.proofs.commit.commit.Reads as commit-reads
-use Rattle.dispatch.proofs.commit.wanted_now.Reads as wanted-now-reads
-use Rattle.dispatch.proofs.step.since_after.Reads as since-after-reads
-use Rattle.dispatch.proofs.supply.supply.Reads as supply-reads
-use Rattle.dispatch.proofs.totals.plus.Reads as plus-reads
 
 -- the station's tables have their lengths
 tables : (c : tie.Start) → Tables (c .args .st)
@@ -24,35 +17,27 @@ tables c =
     let good = c .good .0 .1 .1 .1 .1 .1 .1 in
     record { sets-length = simp length-map at (good .0 .1 .0 .1); configs-length = simp length-map at (good .1 .0 .1 .0 .1) }
 
--- src/step.rt:31:9
 supply-requires : tie.Need-supply-requires
 supply-requires c κs = search needs
 
--- src/step.rt:35:9
 wanted-now-requires : tie.Need-wanted-now-requires
 wanted-now-requires c κs = rw (c .before .before .before .supply .ensures .watts) (wantable (c .before .before .before .before .before .before .args .st) (tables (c .before .before .before .before .before .before)) (c .before .before .before .before .before .before .args .run) (c .before .before .before .before .before .before .args .inputs) (c .before .before .before .before .before .before .pre))
 
--- src/step.rt:36:9
 commit-requires : tie.Need-commit-requires
 commit-requires c κs = rw (c .before .before .before .before .supply .ensures .states) (switchable (c .before .before .before .before .before .before .before .args .st) (tables (c .before .before .before .before .before .before .before)) (c .before .before .before .before .before .before .before .args .run) (c .before .before .before .before .before .before .before .args .inputs) (c .before .before .before .before .before .before .before .pre) (wattsNow (c .before .before .before .before .before .before .before .args .st) (c .before .before .before .before .before .before .before .args .run) (c .before .before .before .before .before .before .before .args .inputs)))
 
--- src/step.rt:39:9
 plus-requires : tie.Need-plus-requires
 plus-requires c κs = totals-small (c .before .before .before .before .before .before .before .before .before .args .st) (tables (c .before .before .before .before .before .before .before .before .before)) (c .before .before .before .before .before .before .before .before .before .args .run) (c .before .before .before .before .before .before .before .before .before .args .inputs) (c .before .before .before .before .before .before .before .before .before .pre)
 
--- src/step.rt:41:15
 add-t18 : tie.Need-add-t18
 add-t18 c = search needs
 
--- src/step.rt:42:16
 since-after-requires : tie.Need-since-after-requires
 since-after-requires c κs = search needs
 
--- src/step.rt:55:15
 cast-t19 : tie.Need-cast-t19
 cast-t19 c = omega (arith, call-now (c .before .before .before .before .before .before .before .before .before .before .before .before .before .args .st) (c .before .before .before .before .before .before .before .before .before .before .before .before .before .args .run) (c .before .before .before .before .before .before .before .before .before .before .before .before .before .args .inputs) _ (c .before .before .before .before .before .before .before .before .before .before .supply .ensures) _ (c .before .before .before .before .before .before .wanted-now .ensures) _ (c .before .before .before .before .before .commit .ensures), call-most (c .before .before .before .before .before .before .before .before .before .before .before .before .before .args .st) (tables (c .before .before .before .before .before .before .before .before .before .before .before .before .before)) (c .before .before .before .before .before .before .before .before .before .before .before .before .before .args .run) (c .before .before .before .before .before .before .before .before .before .before .before .before .before .args .inputs) (c .before .before .before .before .before .before .before .before .before .before .before .before .before .pre))
 
--- src/step.rt:24:1
 returns : tie.Need-returns
 returns c = step-now (c .before .before .before .before .before .before .before .before .before .before .before .before .before .args .st) (c .before .before .before .before .before .before .before .before .before .before .before .before .before .args .run) (c .before .before .before .before .before .before .before .before .before .before .before .before .before .args .inputs) _ (c .before .before .before .before .before .before .before .before .before .before .supply .ensures) _ (c .before .before .before .before .before .before .wanted-now .ensures) _ (c .before .before .before .before .before .commit .ensures) _ (c .before .since-after .ensures) _ (c .before .before .before .plus .ensures)
 

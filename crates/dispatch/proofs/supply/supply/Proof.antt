@@ -11,54 +11,34 @@ use Rattle.dispatch.proofs.Ready.{countable}
 use Rattle.dispatch.proofs.Steps.{states-now, on-now, watts-now, decided-now, store-now, ran-now}
 use Rattle.dispatch.proofs.supply.supply.Statement.{statement}
 use Rattle.dispatch.proofs.supply.supply.Tie as tie
-use Rattle.dispatch.proofs.supply.supply.Reads as reads
-use Rattle.dispatch.proofs.supply.supply.Lts as lts
-use Rattle.dispatch.proofs.counts.count_all.Reads as count-all-reads
-use Rattle.flows.proofs.amounts.decided_after.Reads as decided-after-reads
-use Rattle.flows.proofs.amounts.shed_decided.Reads as shed-decided-reads
-use Rattle.flows.proofs.floor.floor_load.Reads as floor-load-reads
-use Rattle.flows.proofs.flow.flow.Reads as flow-reads
-use Rattle.gensets.proofs.share.capacity.Reads as capacity-reads
-use Rattle.modes.proofs.masks.on_mask.Reads as on-mask-reads
-use Rattle.modes.proofs.tick.tick_all.Reads as tick-all-reads
 
--- src/supply.rt:39:9
 tick-all-requires : tie.Need-tick-all-requires
 tick-all-requires c κs = search needs
 
--- src/supply.rt:40:9
 on-mask-requires : tie.Need-on-mask-requires
 on-mask-requires c κs = search needs
 
--- src/supply.rt:41:15
 capacity-requires : tie.Need-capacity-requires
 capacity-requires c κs = search needs
 
--- src/supply.rt:41:15
 cast-cap : tie.Need-cast-cap
 cast-cap c = let h = c .capacity .ensures in let k = capacity-most (c .before .before .before .before .before .before .before .before .args .st) (c .before .before .before .before .before .before .before .before .pre .station-given) (c .before .on-mask .result) in omega arith
 
--- src/supply.rt:42:9
 floor-load-requires : tie.Need-floor-load-requires
 floor-load-requires c κs = search needs
 
--- src/supply.rt:43:54
 array-read-flow : tie.Need-array-read-flow
 array-read-flow c = search needs
 
--- src/supply.rt:43:9
 flow-requires : tie.Need-flow-requires
 flow-requires c κs = search needs
 
--- src/supply.rt:45:9
 shed-decided-requires : tie.Need-shed-decided-requires
 shed-decided-requires c κs = search needs
 
--- src/supply.rt:46:9
 decided-after-requires : tie.Need-decided-after-requires
 decided-after-requires c κs = search needs
 
--- src/supply.rt:47:9
 tables : (c : tie.After-decided-after) → Tables (c .before .before .before .before .before .before .before .before .before .before .before .before .before .args .st)
 tables c =
     let good = c .before .before .before .before .before .before .before .before .before .before .before .before .before .good .0 .1 .1 .1 .1 .1 .1 in
@@ -72,7 +52,6 @@ count-all-requires c κs =
       watts-now (c .before .before .before .before .before .before .before .before .before .before .before .before .before .args .st) (c .before .before .before .before .before .before .before .before .before .before .before .before .before .args .run) (c .before .before .before .before .before .before .before .before .before .before .before .before .before .args .inputs) _ (c .before .before .before .before .before .before .before .tick-all .ensures) _ (c .before .before .before .before .before .before .on-mask .ensures .0) _ (c .before .before .before .before .before .capacity .ensures) _ (c .before .before .before .before .floor-load .ensures) _ (c .before .before .before .flow .ensures .0),
     ) (countable (c .before .before .before .before .before .before .before .before .before .before .before .before .before .args .st) (tables c) (c .before .before .before .before .before .before .before .before .before .before .before .before .before .args .run) (c .before .before .before .before .before .before .before .before .before .before .before .before .before .args .inputs) (c .before .before .before .before .before .before .before .before .before .before .before .before .before .pre))
 
--- src/supply.rt:30:1
 returns : tie.Need-returns
 returns c = record {
   states = ran-now (c .before .before .before .before .before .before .before .before .before .before .before .before .before .before .args .st) (c .before .before .before .before .before .before .before .before .before .before .before .before .before .before .args .run) (c .before .before .before .before .before .before .before .before .before .before .before .before .before .before .args .inputs) _ (c .before .before .before .before .before .before .before .before .tick-all .ensures) _ (c .before .before .before .before .before .before .before .on-mask .ensures .0) _ (c .before .before .before .before .before .before .capacity .ensures) _ (c .before .before .before .before .before .floor-load .ensures) _ (c .before .before .before .before .flow .ensures .0) _ (c .count-all .ensures);

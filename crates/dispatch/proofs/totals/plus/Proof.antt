@@ -2,47 +2,34 @@
 use borrow.Author.Needs.{needs}
 use Rattle.dispatch.proofs.totals.plus.Statement.{statement}
 use Rattle.dispatch.proofs.totals.plus.Tie as tie
-use Rattle.dispatch.proofs.totals.plus.Reads as reads
-use Rattle.dispatch.proofs.totals.plus.Lts as lts
-use Rattle.dispatch.proofs.totals.more.Reads as more-reads
 
--- src/totals.rt:22:18
 more-requires : tie.Need-more-requires
 more-requires c κs = search needs
 
--- src/totals.rt:23:15
 more-requires-2 : tie.Need-more-requires-2
 more-requires-2 c κs = search needs
 
--- src/totals.rt:24:15
 more-requires-3 : tie.Need-more-requires-3
 more-requires-3 c κs = search needs
 
--- src/totals.rt:25:16
 more-requires-4 : tie.Need-more-requires-4
 more-requires-4 c κs = search needs
 
--- src/totals.rt:26:17
 more-requires-5 : tie.Need-more-requires-5
 more-requires-5 c κs = search needs
 
--- src/totals.rt:27:16
 more-requires-6 : tie.Need-more-requires-6
 more-requires-6 c κs = search needs
 
--- src/totals.rt:28:15
 more-requires-7 : tie.Need-more-requires-7
 more-requires-7 c κs = search needs
 
--- src/totals.rt:29:17
 more-requires-8 : tie.Need-more-requires-8
 more-requires-8 c κs = search needs
 
--- src/totals.rt:30:19
 more-requires-9 : tie.Need-more-requires-9
 more-requires-9 c κs = search needs
 
--- src/totals.rt:17:1
 returns : tie.Need-returns
 returns c = simp (c .before .before .before .before .before .before .before .before .more .ensures, c .before .before .before .before .before .before .before .more2 .ensures, c .before .before .before .before .before .before .more3 .ensures, c .before .before .before .before .before .more4 .ensures, c .before .before .before .before .more5 .ensures, c .before .before .before .more6 .ensures, c .before .before .more7 .ensures, c .before .more8 .ensures, c .more9 .ensures)
 
