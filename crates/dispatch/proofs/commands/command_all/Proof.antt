@@ -51,7 +51,9 @@ has-set-requires c κs = search needs
 
 command-requires : tie.Need-command-requires Inv-loop μ-loop
 unfolding stateAt
-command-requires c κs = c .before .before .before .before .loop .inv .0 .each (c .before .before .before .before .loop .i) (search needs)
+command-requires c κs =
+    let at-loop = c .before .before .before .before in
+    at-loop .loop .inv .0 .each (at-loop .loop .i) (search needs)
 
 mul-out : tie.Need-mul-out Inv-loop μ-loop
 mul-out c = omega arith
@@ -68,7 +70,8 @@ loop-less c = omega arith
 loop-again : tie.Need-loop-again Inv-loop μ-loop
 unfolding setAt stateAt pastEnd
 loop-again c =
-    (c .before .before .before .before .before .loop .inv .0, c .before .before .before .before .before .loop .inv .1, omega arith, simp length-set (c .before .before .before .before .before .loop .inv .3), filled _ _ (c .before .before .before .before .before .loop .i) (c .before .before .before .before .before .loop .inv .4) _ (omega (arith, c .before .before .before .before .before .loop .inv .3)) (c .command .ensures ∙ rw (c .before .has-set .ensures, c .before .before .before .before .before .loop .inv .1)))
+    let at-loop = c .before .before .before .before .before in
+    (at-loop .loop .inv .0, at-loop .loop .inv .1, omega arith, simp length-set (at-loop .loop .inv .3), filled _ _ (at-loop .loop .i) (at-loop .loop .inv .4) _ (omega (arith, at-loop .loop .inv .3)) (c .command .ensures ∙ rw (c .before .has-set .ensures, at-loop .loop .inv .1)))
 
 returns : tie.Need-returns Inv-loop μ-loop
 unfolding commandedAll

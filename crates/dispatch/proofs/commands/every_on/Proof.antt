@@ -47,7 +47,9 @@ loop-less c = search needs
 
 loop-again : tie.Need-loop-again Inv-loop μ-loop
 unfolding stateAt
-loop-again c = (omega arith, all-turn _ (c .before .before .before .before .loop .i) _ _ (c .before .before .before .before .loop .inv .1) (rw (c .before .has-set .ensures, c .is-on .ensures)))
+loop-again c =
+    let at-loop = c .before .before .before .before in
+    (omega arith, all-turn _ (at-loop .loop .i) _ _ (at-loop .loop .inv .1) (rw (c .before .has-set .ensures, c .is-on .ensures)))
 
 returns : tie.Need-returns Inv-loop μ-loop
 unfolding everyOn

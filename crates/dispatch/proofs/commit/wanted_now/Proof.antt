@@ -15,7 +15,9 @@ wanted-for-requires : tie.Need-wanted-for-requires
 wanted-for-requires c κs = search needs
 
 cast-result : tie.Need-cast-result
-cast-result c = omega (arith, c .wanted-for .ensures, wanted-small (c .before .before .before .args .control) (c .before .before .before .args .watts) (c .before .before .before .args .sheddable) (c .before .before .before .pre))
+cast-result c =
+    let start = c .before .before .before in
+    omega (arith, c .wanted-for .ensures, wanted-small (start .args .control) (start .args .watts) (start .args .sheddable) (start .pre))
 
 returns : tie.Need-returns
 returns c = search needs

@@ -71,13 +71,22 @@ add-t12 : tie.Need-add-t12
 add-t12 c = search needs
 
 add-t13 : tie.Need-add-t13
-add-t13 c = omega (arith, burned-is _ _ _ (c .before .before .before .before .before .before .before .before .before .before .pre) (sym (c .before .before .before .before .before .before .before .before .before .is-on .ensures) ∙ not-false _ (c .before .before .before .before .before .before .before .before .if1 .left)) _ _ (c .before .before .before .before .before .before .before .fuel-rate .ensures) (c .before .before .before .before .before .rate .given .1), small _ _ _ (c .before .before .before .before .before .before .before .before .before .before .pre) (sym (c .before .before .before .before .before .before .before .before .before .is-on .ensures) ∙ not-false _ (c .before .before .before .before .before .before .before .before .if1 .left)), c .before .before .before .before .before .before .before .before .before .before .pre .small .fuel-most)
+add-t13 c =
+    let after-fuel-rate = c .before .before .before .before .before .before .before in
+    let after-if1 = after-fuel-rate .before in
+    let after-is-on = after-if1 .before in
+    let start = after-is-on .before in
+    omega (arith, burned-is _ _ _ (start .pre) (sym (after-is-on .is-on .ensures) ∙ not-false _ (after-if1 .if1 .left)) _ _ (after-fuel-rate .fuel-rate .ensures) (c .before .before .before .before .before .rate .given .1), small _ _ _ (start .pre) (sym (after-is-on .is-on .ensures) ∙ not-false _ (after-if1 .if1 .left)), start .pre .small .fuel-most)
 
 returns-3 : tie.Need-returns-3
 unfolding counted
 returns-3 c =
-    let o : isOn (c .before .before .before .before .before .before .before .before .before .before .args .state .mode) ≡ true = sym (c .before .before .before .before .before .before .before .before .before .is-on .ensures) ∙ not-false _ (c .before .before .before .before .before .before .before .before .if1 .left) in
-    rw (o, ← burned-is _ _ _ (c .before .before .before .before .before .before .before .before .before .before .pre) o _ _ (c .before .before .before .before .before .before .before .fuel-rate .ensures) (c .before .before .before .before .before .rate .given .1))
+    let after-fuel-rate = c .before .before .before .before .before .before .before in
+    let after-if1 = after-fuel-rate .before in
+    let after-is-on = after-if1 .before in
+    let start = after-is-on .before in
+    let o : isOn (start .args .state .mode) ≡ true = sym (after-is-on .is-on .ensures) ∙ not-false _ (after-if1 .if1 .left) in
+    rw (o, ← burned-is _ _ _ (start .pre) o _ _ (after-fuel-rate .fuel-rate .ensures) (c .before .before .before .before .before .rate .given .1))
 
 pub count-spec : {M : Type 1} → statement M
 count-spec =

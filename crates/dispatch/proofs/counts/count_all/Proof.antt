@@ -77,7 +77,9 @@ array-read-count c = omega (arith, simp length-tab at (ap length (c .before .bef
 
 count-requires : tie.Need-count-requires Inv-loop μ-loop
 unfolding setAt stateAt pastEnd
-count-requires c κs = countable _ _ _ _ (c .before .before .before .loop .inv .0) _ (c .before .before .before .loop .inv .1) (c .before .before .before .loop .i) (search needs)
+count-requires c κs =
+    let at-loop = c .before .before .before in
+    countable _ _ _ _ (at-loop .loop .inv .0) _ (at-loop .loop .inv .1) (at-loop .loop .i) (search needs)
 
 mul-out : tie.Need-mul-out Inv-loop μ-loop
 mul-out c = omega arith
@@ -94,9 +96,10 @@ loop-less c = omega arith
 loop-again : tie.Need-loop-again Inv-loop μ-loop
 unfolding setAt stateAt pastEnd
 loop-again c =
-    let l : c .before .before .before .before .loop .i < 8 = search needs in
-    let e = power-is _ _ _ _ (c .before .before .before .before .loop .inv .0) _ (c .before .before .before .before .loop .inv .1) (c .before .before .before .before .loop .i) l in
-    (c .before .before .before .before .loop .inv .0, c .before .before .before .before .loop .inv .1, omega arith, simp length-set (c .before .before .before .before .loop .inv .3), filled _ _ (c .before .before .before .before .loop .i) (c .before .before .before .before .loop .inv .4) _ (omega (arith, c .before .before .before .before .loop .inv .3)) (c .count .ensures ∙ rw e))
+    let at-loop = c .before .before .before .before in
+    let l : at-loop .loop .i < 8 = search needs in
+    let e = power-is _ _ _ _ (at-loop .loop .inv .0) _ (at-loop .loop .inv .1) (at-loop .loop .i) l in
+    (at-loop .loop .inv .0, at-loop .loop .inv .1, omega arith, simp length-set (at-loop .loop .inv .3), filled _ _ (at-loop .loop .i) (at-loop .loop .inv .4) _ (omega (arith, at-loop .loop .inv .3)) (c .count .ensures ∙ rw e))
 
 returns : tie.Need-returns Inv-loop μ-loop
 unfolding countedAll

@@ -14,16 +14,24 @@ inputs-right-requires : tie.Need-inputs-right-requires
 inputs-right-requires c κs = search needs
 
 returns-2 : tie.Need-returns-2
-returns-2 c = inputs-over (c .before .before .before .args .done) (c .before .before .before .args .inputs) (c .before .before .before .args .room) (omega arith) (sym (c .before .inputs-right .ensures) ∙ not-true _ (c .if2 .taken))
+returns-2 c =
+    let start = c .before .before .before in
+    inputs-over (start .args .done) (start .args .inputs) (start .args .room) (omega arith) (sym (c .before .inputs-right .ensures) ∙ not-true _ (c .if2 .taken))
 
 returns-3 : tie.Need-returns-3
-returns-3 c = sheddable-above (c .before .before .before .before .args .done) (c .before .before .before .before .args .inputs) (c .before .before .before .before .args .room) (omega arith) (sym (c .before .before .inputs-right .ensures) ∙ not-false _ (c .before .if2 .left)) (c .if3 .taken)
+returns-3 c =
+    let start = c .before .before .before .before in
+    sheddable-above (start .args .done) (start .args .inputs) (start .args .room) (omega arith) (sym (c .before .before .inputs-right .ensures) ∙ not-false _ (c .before .if2 .left)) (c .if3 .taken)
 
 returns-4 : tie.Need-returns-4
-returns-4 c = buffer-short (c .before .before .before .before .before .args .done) (c .before .before .before .before .before .args .inputs) (c .before .before .before .before .before .args .room) (omega arith) (sym (c .before .before .before .inputs-right .ensures) ∙ not-false _ (c .before .before .if2 .left)) (omega arith) (c .if4 .taken)
+returns-4 c =
+    let start = c .before .before .before .before .before in
+    buffer-short (start .args .done) (start .args .inputs) (start .args .room) (omega arith) (sym (c .before .before .before .inputs-right .ensures) ∙ not-false _ (c .before .before .if2 .left)) (omega arith) (c .if4 .taken)
 
 returns-5 : tie.Need-returns-5
-returns-5 c = none-refuses (c .before .before .before .before .before .args .done) (c .before .before .before .before .before .args .inputs) (c .before .before .before .before .before .args .room) (omega arith) (sym (c .before .before .before .inputs-right .ensures) ∙ not-false _ (c .before .before .if2 .left)) (omega arith) (omega arith)
+returns-5 c =
+    let start = c .before .before .before .before .before in
+    none-refuses (start .args .done) (start .args .inputs) (start .args .room) (omega arith) (sym (c .before .before .before .inputs-right .ensures) ∙ not-false _ (c .before .before .if2 .left)) (omega arith) (omega arith)
 
 pub admit-spec : {M : Type 1} → statement M
 admit-spec =

@@ -15,13 +15,17 @@ enum-known-verdict : tie.Need-enum-known-verdict
 enum-known-verdict c = search needs
 
 returns : tie.Need-returns
-returns c = refused-owes (c .before .before .before .before .before .args .st) (c .before .before .before .before .before .args .run) (c .before .before .before .before .before .args .inputs) (now (c .before .before .before .before .before .args .row)) _ (late-refused (c .before .before .before .before .before .args .st) (c .before .before .before .before .before .args .run) (c .before .before .before .before .before .args .inputs) (now (c .before .before .before .before .before .args .row)) (c .before .before .before .before .before .pre .0) (c .before .before .before .before .before .pre .1) _ (c .before .before .before .admit .ensures) _ (c .before .verdict .given .1))
+returns c =
+    let start = c .before .before .before .before .before in
+    refused-owes (start .args .st) (start .args .run) (start .args .inputs) (now (start .args .row)) _ (late-refused (start .args .st) (start .args .run) (start .args .inputs) (now (start .args .row)) (start .pre .0) (start .pre .1) _ (c .before .before .before .admit .ensures) _ (c .before .verdict .given .1))
 
 enum-told : tie.Need-enum-told
 enum-told c = search needs
 
 step-requires : tie.Need-step-requires
-step-requires c κs = is-admitted (c .before .before .before .before .args .st) (c .before .before .before .before .args .run) (c .before .before .before .before .args .inputs) (now (c .before .before .before .before .args .row)) (c .before .before .before .before .pre .0) (c .before .before .before .before .pre .1) _ (c .before .before .admit .ensures) (c .enum-told .given .1)
+step-requires c κs =
+    let start = c .before .before .before .before in
+    is-admitted (start .args .st) (start .args .run) (start .args .inputs) (now (start .args .row)) (start .pre .0) (start .pre .1) _ (c .before .before .admit .ensures) (c .enum-told .given .1)
 
 put-row-requires : tie.Need-put-row-requires
 put-row-requires c κs = search needs
@@ -31,8 +35,12 @@ same-length c = search needs
 
 returns-2 : tie.Need-returns-2
 returns-2 c =
-    let put = row-put _ _ _ _ (has-room (c .before .before .before .before .before .before .before .before .before .before .before .args .st) (c .before .before .before .before .before .before .before .before .before .before .before .args .run) (c .before .before .before .before .before .before .before .before .before .before .before .args .inputs) (now (c .before .before .before .before .before .before .before .before .before .before .before .args .row)) (c .before .before .before .before .before .before .before .before .before .before .before .pre .0) (c .before .before .before .before .before .before .before .before .before .before .before .pre .1) _ (c .before .before .before .before .before .before .before .before .before .admit .ensures) (c .before .before .before .before .before .before .before .enum-told .given .1)) (c .before .before .put-row .ensures) in
-    accepted-owes (c .before .before .before .before .before .before .before .before .before .before .before .args .st) (c .before .before .before .before .before .before .before .before .before .before .before .args .run) (c .before .before .before .before .before .before .before .before .before .before .before .args .inputs) (now (c .before .before .before .before .before .before .before .before .before .before .before .args .row)) (c .before .before .before .before .before .before .step .result) _ _ (none-refused (c .before .before .before .before .before .before .before .before .before .before .before .args .st) (c .before .before .before .before .before .before .before .before .before .before .before .args .run) (c .before .before .before .before .before .before .before .before .before .before .before .args .inputs) (now (c .before .before .before .before .before .before .before .before .before .before .before .args .row)) (c .before .before .before .before .before .before .before .before .before .before .before .pre .0) (c .before .before .before .before .before .before .before .before .before .before .before .pre .1) _ (c .before .before .before .before .before .before .before .before .before .admit .ensures) (c .before .before .before .before .before .before .before .enum-told .given .1)) (c .before .before .before .before .before .before .step .ensures) (put .0) (put .1)
+    let after-step = c .before .before .before .before .before .before in
+    let after-enum-told = after-step .before in
+    let after-admit = after-enum-told .before .before in
+    let start = after-admit .before .before in
+    let put = row-put _ _ _ _ (has-room (start .args .st) (start .args .run) (start .args .inputs) (now (start .args .row)) (start .pre .0) (start .pre .1) _ (after-admit .admit .ensures) (after-enum-told .enum-told .given .1)) (c .before .before .put-row .ensures) in
+    accepted-owes (start .args .st) (start .args .run) (start .args .inputs) (now (start .args .row)) (after-step .step .result) _ _ (none-refused (start .args .st) (start .args .run) (start .args .inputs) (now (start .args .row)) (start .pre .0) (start .pre .1) _ (after-admit .admit .ensures) (after-enum-told .enum-told .given .1)) (after-step .step .ensures) (put .0) (put .1)
 
 pub judged-second-spec : {M : Type 1} → statement M
 judged-second-spec =

@@ -13,13 +13,17 @@ some-file-gives-requires : tie.Need-some-file-gives-requires
 some-file-gives-requires c κs = search needs
 
 returns : tie.Need-returns
-returns c = refused-owes (c .before .before .before .args .st) (c .before .before .before .args .run) (c .before .before .before .args .inputs) (now (c .before .before .before .args .row)) _ (second-25 (c .before .before .before .args .st) (c .before .before .before .args .run) (c .before .before .before .args .inputs) (length (now (c .before .before .before .args .row))) (sym (c .before .some-file-gives .ensures) ∙ not-true _ (c .if1 .taken)))
+returns c =
+    let start = c .before .before .before in
+    refused-owes (start .args .st) (start .args .run) (start .args .inputs) (now (start .args .row)) _ (second-25 (start .args .st) (start .args .run) (start .args .inputs) (length (now (start .args .row))) (sym (c .before .some-file-gives .ensures) ∙ not-true _ (c .if1 .taken)))
 
 possible-requires : tie.Need-possible-requires
 possible-requires c κs = search needs
 
 returns-2 : tie.Need-returns-2
-returns-2 c = refused-owes (c .before .before .before .before .before .args .st) (c .before .before .before .before .before .args .run) (c .before .before .before .before .before .args .inputs) (now (c .before .before .before .before .before .args .row)) _ (second-24 (c .before .before .before .before .before .args .st) (c .before .before .before .before .before .args .run) (c .before .before .before .before .before .args .inputs) (length (now (c .before .before .before .before .before .args .row))) (sym (c .before .before .before .some-file-gives .ensures) ∙ not-false _ (c .before .before .if1 .left)) (sym (c .before .possible .ensures) ∙ not-true _ (c .if2 .taken)))
+returns-2 c =
+    let start = c .before .before .before .before .before in
+    refused-owes (start .args .st) (start .args .run) (start .args .inputs) (now (start .args .row)) _ (second-24 (start .args .st) (start .args .run) (start .args .inputs) (length (now (start .args .row))) (sym (c .before .before .before .some-file-gives .ensures) ∙ not-false _ (c .before .before .if1 .left)) (sym (c .before .possible .ensures) ∙ not-true _ (c .if2 .taken)))
 
 judged-second-requires : tie.Need-judged-second-requires
 judged-second-requires c κs = ((sym (c .before .before .before .before .some-file-gives .ensures) ∙ not-false _ (c .before .before .before .if1 .left)), sym (c .before .before .possible .ensures) ∙ not-false _ (c .before .if2 .left))

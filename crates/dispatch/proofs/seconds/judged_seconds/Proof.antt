@@ -35,34 +35,46 @@ owes : (c : tie.After-judged-second Inv-loop μ-loop) → Second (c .before .bef
 owes c = rw rest-is at (c .judged-second .ensures)
 
 same-size : (c : tie.After-judged-second Inv-loop μ-loop) → length (c .judged-second .last .1 .1 .1 .0) ≡ length (drop (c .before .before .before .before .before .before .loop .at) (c .before .before .before .before .before .before .loop .rows))
-same-size c = c .judged-second .kept .1 .1 .1 .0 ∙ ap length (rest-is (c .before .before .before .before .before .before .loop .rows) (c .before .before .before .before .before .before .loop .at))
+same-size c =
+    let at-loop = c .before .before .before .before .before .before in
+    c .judged-second .kept .1 .1 .1 .0 ∙ ap length (rest-is (at-loop .loop .rows) (at-loop .loop .at))
 
 within : (c : tie.After-judged-second Inv-loop μ-loop) → c .before .before .before .before .before .before .loop .i < length (inputsOf (now (c .before .before .before .before .before .before .before .before .before .before .before .before .args .loads)) (now (c .before .before .before .before .before .before .before .before .before .before .before .before .args .solars)) (now (c .before .before .before .before .before .before .before .before .before .before .before .before .args .sheddables)))
-within c = let t = c .before .before .before .before .before .loop-test .taken in omega (arith, c .before .before .before .before .before .before .loop .inv .0)
+within c =
+    let at-loop = c .before .before .before .before .before .before in
+    let t = c .before .before .before .before .before .loop-test .taken in omega (arith, at-loop .loop .inv .0)
 
 places-requires : tie.Need-places-requires Inv-loop μ-loop
 places-requires c κs = search needs
 
 loop-holds : tie.Need-loop-holds Inv-loop μ-loop
-loop-holds c = (c .places .ensures ∙ sym (inputs-length (now (c .before .before .before .before .before .args .loads)) (now (c .before .before .before .before .before .args .solars)) (now (c .before .before .before .before .before .args .sheddables))), c .before .before .before .before .before .pre .0, c .before .before .before .before .before .pre .1, going-start (c .before .before .before .before .before .args .st) (now (c .before .before .before .before .before .args .loads)) (now (c .before .before .before .before .before .args .solars)) (now (c .before .before .before .before .before .args .sheddables)) (now (c .before .before .before .before .before .args .rows)) (c .before .before .before .before .before .args .run))
+loop-holds c =
+    let start = c .before .before .before .before .before in
+    (c .places .ensures ∙ sym (inputs-length (now (start .args .loads)) (now (start .args .solars)) (now (start .args .sheddables))), start .pre .0, start .pre .1, going-start (start .args .st) (now (start .args .loads)) (now (start .args .solars)) (now (start .args .sheddables)) (now (start .args .rows)) (start .args .run))
 
 mul-t17 : tie.Need-mul-t17 Inv-loop μ-loop
 mul-t17 c = search needs
 
 shared-slice-read-t19 : tie.Need-shared-slice-read-t19 Inv-loop μ-loop
-shared-slice-read-t19 c = let t = c .before .loop-test .taken in omega (arith, c .before .before .loop .inv .0, inputs-length (now (c .before .before .before .before .before .before .before .before .args .loads)) (now (c .before .before .before .before .before .before .before .before .args .solars)) (now (c .before .before .before .before .before .before .before .before .args .sheddables)))
+shared-slice-read-t19 c =
+    let start = c .before .before .before .before .before .before .before .before in
+    let t = c .before .loop-test .taken in omega (arith, c .before .before .loop .inv .0, inputs-length (now (start .args .loads)) (now (start .args .solars)) (now (start .args .sheddables)))
 
 mul-t20 : tie.Need-mul-t20 Inv-loop μ-loop
 mul-t20 c = search needs
 
 shared-slice-read-t22 : tie.Need-shared-slice-read-t22 Inv-loop μ-loop
-shared-slice-read-t22 c = let t = c .before .before .loop-test .taken in omega (arith, c .before .before .before .loop .inv .0, inputs-length (now (c .before .before .before .before .before .before .before .before .before .args .loads)) (now (c .before .before .before .before .before .before .before .before .before .args .solars)) (now (c .before .before .before .before .before .before .before .before .before .args .sheddables)))
+shared-slice-read-t22 c =
+    let start = c .before .before .before .before .before .before .before .before .before in
+    let t = c .before .before .loop-test .taken in omega (arith, c .before .before .before .loop .inv .0, inputs-length (now (start .args .loads)) (now (start .args .solars)) (now (start .args .sheddables)))
 
 mul-t23 : tie.Need-mul-t23 Inv-loop μ-loop
 mul-t23 c = search needs
 
 shared-slice-read-t25 : tie.Need-shared-slice-read-t25 Inv-loop μ-loop
-shared-slice-read-t25 c = let t = c .before .before .before .loop-test .taken in omega (arith, c .before .before .before .before .loop .inv .0, inputs-length (now (c .before .before .before .before .before .before .before .before .before .before .args .loads)) (now (c .before .before .before .before .before .before .before .before .before .before .args .solars)) (now (c .before .before .before .before .before .before .before .before .before .before .args .sheddables)))
+shared-slice-read-t25 c =
+    let start = c .before .before .before .before .before .before .before .before .before .before in
+    let t = c .before .before .before .loop-test .taken in omega (arith, c .before .before .before .before .loop .inv .0, inputs-length (now (start .args .loads)) (now (start .args .solars)) (now (start .args .sheddables)))
 
 sub-judged-second : tie.Need-sub-judged-second Inv-loop μ-loop
 sub-judged-second c = search needs
@@ -74,13 +86,20 @@ part-judged-second-end : tie.Need-part-judged-second-end Inv-loop μ-loop
 part-judged-second-end c = search needs
 
 judged-second-requires : tie.Need-judged-second-requires Inv-loop μ-loop
-judged-second-requires c κs = (c .before .before .before .before .before .loop .inv .1, c .before .before .before .before .before .loop .inv .2)
+judged-second-requires c κs =
+    let at-loop = c .before .before .before .before .before in
+    (at-loop .loop .inv .1, at-loop .loop .inv .2)
 
 enum-known-answer : tie.Need-enum-known-answer Inv-loop μ-loop
 enum-known-answer c = search needs
 
 add-at : tie.Need-add-at Inv-loop μ-loop
-add-at c = omega (arith, (goes (c .before .before .before .before .before .before .before .before .before .before .before .before .before .before .before .before .before .before .args .st) (now (c .before .before .before .before .before .before .before .before .before .before .before .before .before .before .before .before .before .before .args .loads)) (now (c .before .before .before .before .before .before .before .before .before .before .before .before .before .before .before .before .before .before .args .solars)) (now (c .before .before .before .before .before .before .before .before .before .before .before .before .before .before .before .before .before .before .args .sheddables)) (now (c .before .before .before .before .before .before .before .before .before .before .before .before .before .before .before .before .before .before .args .rows)) (c .before .before .before .before .before .before .before .before .before .before .before .before .before .before .before .before .before .before .args .run) (c .before .before .before .before .before .before .before .before .before .before .before .before .loop .rows) (c .before .before .before .before .before .before .before .before .before .before .before .before .loop .latest) (c .before .before .before .before .before .before .before .before .before .before .before .before .loop .at) (c .before .before .before .before .before .before .before .before .before .before .before .before .loop .i) (c .before .before .before .before .before .before .before .before .before .before .before .before .loop .inv .3) (within (c .before .before .before .before .before .before)) (c .before .before .before .before .before .before .judged-second .result) (c .before .before .before .before .before .before .judged-second .last .1 .1 .1 .0) (owes (c .before .before .before .before .before .before)) (c .before .before .answer .given .0 .0) (c .before .before .answer .given .1) (same-size (c .before .before .before .before .before .before))) .0, c .before .before .before .before .before .before .before .before .before .before .before .before .loop .inv .3 .size, c .before .before .before .before .before .before .before .before .before .before .before .before .before .before .before .before .before .before .good .1 .1 .1 .1 .1 .0 .0)
+add-at c =
+    let after-before = c .before .before .before .before .before in
+    let after-judged-second = after-before .before in
+    let at-loop = after-judged-second .before .before .before .before .before .before in
+    let start = at-loop .before .before .before .before .before .before in
+    omega (arith, (goes (start .args .st) (now (start .args .loads)) (now (start .args .solars)) (now (start .args .sheddables)) (now (start .args .rows)) (start .args .run) (at-loop .loop .rows) (at-loop .loop .latest) (at-loop .loop .at) (at-loop .loop .i) (at-loop .loop .inv .3) (within (after-judged-second)) (after-judged-second .judged-second .result) (after-judged-second .judged-second .last .1 .1 .1 .0) (owes (after-judged-second)) (c .before .before .answer .given .0 .0) (c .before .before .answer .given .1) (same-size (after-judged-second))) .0, at-loop .loop .inv .3 .size, start .good .1 .1 .1 .1 .1 .0 .0)
 
 add-i : tie.Need-add-i Inv-loop μ-loop
 add-i c = search needs
@@ -90,27 +109,41 @@ loop-less c = search needs
 
 loop-again : tie.Need-loop-again Inv-loop μ-loop
 loop-again c =
-    (c .before .before .before .before .before .before .before .before .before .before .before .before .loop .inv .0, c .before .before .before .before .before .before .before .before .before .before .before .before .loop .inv .1, stays (c .before .before .before .before .before .before .before .before .before .before .before .before .before .before .before .before .before .before .args .st) (now (c .before .before .before .before .before .before .before .before .before .before .before .before .before .before .before .before .before .before .args .loads)) (now (c .before .before .before .before .before .before .before .before .before .before .before .before .before .before .before .before .before .before .args .solars)) (now (c .before .before .before .before .before .before .before .before .before .before .before .before .before .before .before .before .before .before .args .sheddables)) (now (c .before .before .before .before .before .before .before .before .before .before .before .before .before .before .before .before .before .before .args .rows)) (c .before .before .before .before .before .before .before .before .before .before .before .before .before .before .before .before .before .before .args .run) (c .before .before .before .before .before .before .before .before .before .before .before .before .loop .rows) (c .before .before .before .before .before .before .before .before .before .before .before .before .loop .latest) (c .before .before .before .before .before .before .before .before .before .before .before .before .loop .at) (c .before .before .before .before .before .before .before .before .before .before .before .before .loop .i) (c .before .before .before .before .before .before .before .before .before .before .before .before .loop .inv .3) (within (c .before .before .before .before .before .before)) (c .before .before .before .before .before .before .judged-second .result) (c .before .before .before .before .before .before .judged-second .last .1 .1 .1 .0) (owes (c .before .before .before .before .before .before)) (c .before .before .answer .given .0 .0) (c .before .before .answer .given .1) (tables (c .before .before .before .before .before .before .before .before .before .before .before .before .before .before .before .before .before .before)), rw (back-is (c .before .before .before .before .before .before .before .before .before .before .before .before .loop .rows) (c .before .before .before .before .before .before .judged-second .last .1 .1 .1 .0) (c .before .before .before .before .before .before .before .before .before .before .before .before .loop .at)) ((goes (c .before .before .before .before .before .before .before .before .before .before .before .before .before .before .before .before .before .before .args .st) (now (c .before .before .before .before .before .before .before .before .before .before .before .before .before .before .before .before .before .before .args .loads)) (now (c .before .before .before .before .before .before .before .before .before .before .before .before .before .before .before .before .before .before .args .solars)) (now (c .before .before .before .before .before .before .before .before .before .before .before .before .before .before .before .before .before .before .args .sheddables)) (now (c .before .before .before .before .before .before .before .before .before .before .before .before .before .before .before .before .before .before .args .rows)) (c .before .before .before .before .before .before .before .before .before .before .before .before .before .before .before .before .before .before .args .run) (c .before .before .before .before .before .before .before .before .before .before .before .before .loop .rows) (c .before .before .before .before .before .before .before .before .before .before .before .before .loop .latest) (c .before .before .before .before .before .before .before .before .before .before .before .before .loop .at) (c .before .before .before .before .before .before .before .before .before .before .before .before .loop .i) (c .before .before .before .before .before .before .before .before .before .before .before .before .loop .inv .3) (within (c .before .before .before .before .before .before)) (c .before .before .before .before .before .before .judged-second .result) (c .before .before .before .before .before .before .judged-second .last .1 .1 .1 .0) (owes (c .before .before .before .before .before .before)) (c .before .before .answer .given .0 .0) (c .before .before .answer .given .1) (same-size (c .before .before .before .before .before .before))) .1))
+    let after-answer = c .before .before in
+    let after-before = after-answer .before .before .before in
+    let after-judged-second = after-before .before in
+    let at-loop = after-judged-second .before .before .before .before .before .before in
+    let after-before-17 = at-loop .before .before .before .before .before in
+    let start = after-before-17 .before in
+    (at-loop .loop .inv .0, at-loop .loop .inv .1, stays (start .args .st) (now (start .args .loads)) (now (start .args .solars)) (now (start .args .sheddables)) (now (start .args .rows)) (start .args .run) (at-loop .loop .rows) (at-loop .loop .latest) (at-loop .loop .at) (at-loop .loop .i) (at-loop .loop .inv .3) (within (after-judged-second)) (after-judged-second .judged-second .result) (after-judged-second .judged-second .last .1 .1 .1 .0) (owes (after-judged-second)) (after-answer .answer .given .0 .0) (after-answer .answer .given .1) (tables (start)), rw (back-is (at-loop .loop .rows) (after-judged-second .judged-second .last .1 .1 .1 .0) (at-loop .loop .at)) ((goes (start .args .st) (now (start .args .loads)) (now (start .args .solars)) (now (start .args .sheddables)) (now (start .args .rows)) (start .args .run) (at-loop .loop .rows) (at-loop .loop .latest) (at-loop .loop .at) (at-loop .loop .i) (at-loop .loop .inv .3) (within (after-judged-second)) (after-judged-second .judged-second .result) (after-judged-second .judged-second .last .1 .1 .1 .0) (owes (after-judged-second)) (after-answer .answer .given .0 .0) (after-answer .answer .given .1) (same-size (after-judged-second))) .1))
 
 enum-known-answer-2 : tie.Need-enum-known-answer-2 Inv-loop μ-loop
 enum-known-answer-2 c = search needs
 
 same-length : tie.Need-same-length Inv-loop μ-loop
 same-length c =
-    rw (back-is (c .before .before .before .before .before .before .before .before .before .before .before .loop .rows) (c .before .before .before .before .before .judged-second .last .1 .1 .1 .0) (c .before .before .before .before .before .before .before .before .before .before .before .loop .at)) (omega (arith, length-append (take (c .before .before .before .before .before .before .before .before .before .before .before .loop .at) (c .before .before .before .before .before .before .before .before .before .before .before .loop .rows)) (c .before .before .before .before .before .judged-second .last .1 .1 .1 .0), same-size (c .before .before .before .before .before), length-take (c .before .before .before .before .before .before .before .before .before .before .before .loop .at) (c .before .before .before .before .before .before .before .before .before .before .before .loop .rows), length-drop (c .before .before .before .before .before .before .before .before .before .before .before .loop .at) (c .before .before .before .before .before .before .before .before .before .before .before .loop .rows), c .before .before .before .before .before .before .before .before .before .before .before .loop .inv .3 .size, c .before .before .before .before .before .before .before .before .before .before .before .loop .inv .3 .within))
+    let after-judged-second = c .before .before .before .before .before in
+    let at-loop = after-judged-second .before .before .before .before .before .before in
+    rw (back-is (at-loop .loop .rows) (after-judged-second .judged-second .last .1 .1 .1 .0) (at-loop .loop .at)) (omega (arith, length-append (take (at-loop .loop .at) (at-loop .loop .rows)) (after-judged-second .judged-second .last .1 .1 .1 .0), same-size (after-judged-second), length-take (at-loop .loop .at) (at-loop .loop .rows), length-drop (at-loop .loop .at) (at-loop .loop .rows), at-loop .loop .inv .3 .size, at-loop .loop .inv .3 .within))
 
 returns : tie.Need-returns Inv-loop μ-loop
 returns c =
-    let t = stops (c .before .before .before .before .before .before .before .before .before .before .before .before .before .before .before .before .before .args .st) (now (c .before .before .before .before .before .before .before .before .before .before .before .before .before .before .before .before .before .args .loads)) (now (c .before .before .before .before .before .before .before .before .before .before .before .before .before .before .before .before .before .args .solars)) (now (c .before .before .before .before .before .before .before .before .before .before .before .before .before .before .before .before .before .args .sheddables)) (now (c .before .before .before .before .before .before .before .before .before .before .before .before .before .before .before .before .before .args .rows)) (c .before .before .before .before .before .before .before .before .before .before .before .before .before .before .before .before .before .args .run) (c .before .before .before .before .before .before .before .before .before .before .before .loop .rows) (c .before .before .before .before .before .before .before .before .before .before .before .loop .latest) (c .before .before .before .before .before .before .before .before .before .before .before .loop .at) (c .before .before .before .before .before .before .before .before .before .before .before .loop .i) (c .before .before .before .before .before .before .before .before .before .before .before .loop .inv .3) (within (c .before .before .before .before .before)) (c .before .before .before .before .before .judged-second .result) (c .before .before .before .before .before .judged-second .last .1 .1 .1 .0) (owes (c .before .before .before .before .before)) (c .before .answer2 .given .0 .0) (c .before .answer2 .given .1) in
-    owed (c .before .before .before .before .before .before .before .before .before .before .before .before .before .before .before .before .before .args .st) (now (c .before .before .before .before .before .before .before .before .before .before .before .before .before .before .before .before .before .args .loads)) (now (c .before .before .before .before .before .before .before .before .before .before .before .before .before .before .before .before .before .args .solars)) (now (c .before .before .before .before .before .before .before .before .before .before .before .before .before .before .before .before .before .args .sheddables)) (now (c .before .before .before .before .before .before .before .before .before .before .before .before .before .before .before .before .before .args .rows)) (c .before .before .before .before .before .before .before .before .before .before .before .before .before .before .before .before .before .args .run) (c .before .before .before .before .before .before .before .before .before .before .before .loop .rows) _ (c .before .before .before .before .before .before .before .before .before .before .before .loop .latest) (c .before .before .before .before .before .before .before .before .before .before .before .loop .at) (c .before .before .before .before .before .before .before .before .before .before .before .loop .i) _ (c .before .before .before .before .before .before .before .before .before .before .before .loop .inv .3 .within) (t .0) (back-is (c .before .before .before .before .before .before .before .before .before .before .before .loop .rows) (c .before .before .before .before .before .judged-second .last .1 .1 .1 .0) (c .before .before .before .before .before .before .before .before .before .before .before .loop .at) ∙ ap (λ (x : List ℕ). take (c .before .before .before .before .before .before .before .before .before .before .before .loop .at) (c .before .before .before .before .before .before .before .before .before .before .before .loop .rows) ++ x) (t .1))
+    let after-before = c .before .before .before .before in
+    let after-judged-second = after-before .before in
+    let at-loop = after-judged-second .before .before .before .before .before .before in
+    let start = at-loop .before .before .before .before .before .before in
+    let t = stops (start .args .st) (now (start .args .loads)) (now (start .args .solars)) (now (start .args .sheddables)) (now (start .args .rows)) (start .args .run) (at-loop .loop .rows) (at-loop .loop .latest) (at-loop .loop .at) (at-loop .loop .i) (at-loop .loop .inv .3) (within (after-judged-second)) (after-judged-second .judged-second .result) (after-judged-second .judged-second .last .1 .1 .1 .0) (owes (after-judged-second)) (c .before .answer2 .given .0 .0) (c .before .answer2 .given .1) in
+    owed (start .args .st) (now (start .args .loads)) (now (start .args .solars)) (now (start .args .sheddables)) (now (start .args .rows)) (start .args .run) (at-loop .loop .rows) _ (at-loop .loop .latest) (at-loop .loop .at) (at-loop .loop .i) _ (at-loop .loop .inv .3 .within) (t .0) (back-is (at-loop .loop .rows) (after-judged-second .judged-second .last .1 .1 .1 .0) (at-loop .loop .at) ∙ ap (λ (x : List ℕ). take (at-loop .loop .at) (at-loop .loop .rows) ++ x) (t .1))
 
 same-length-2 : tie.Need-same-length-2 Inv-loop μ-loop
 same-length-2 c = c .before .loop .inv .3 .size
 
 returns-2 : tie.Need-returns-2 Inv-loop μ-loop
 returns-2 c =
+    let at-loop = c .before in
+    let start = at-loop .before .before .before .before .before .before in
     let t = c .loop-test .left in
-    owed (c .before .before .before .before .before .before .before .args .st) (now (c .before .before .before .before .before .before .before .args .loads)) (now (c .before .before .before .before .before .before .before .args .solars)) (now (c .before .before .before .before .before .before .before .args .sheddables)) (now (c .before .before .before .before .before .before .before .args .rows)) (c .before .before .before .before .before .before .before .args .run) (c .before .loop .rows) _ (c .before .loop .latest) (c .before .loop .at) (c .before .loop .i) Accepted (c .before .loop .inv .3 .within) (over (c .before .before .before .before .before .before .before .args .st) (now (c .before .before .before .before .before .before .before .args .loads)) (now (c .before .before .before .before .before .before .before .args .solars)) (now (c .before .before .before .before .before .before .before .args .sheddables)) (now (c .before .before .before .before .before .before .before .args .rows)) (c .before .before .before .before .before .before .before .args .run) (c .before .loop .rows) (c .before .loop .latest) (c .before .loop .at) (c .before .loop .i) (c .before .loop .inv .3) (omega (arith, c .before .loop .inv .0))) (sym (take-append-drop (c .before .loop .at) (c .before .loop .rows)) ∙ ap (λ (x : List ℕ). take (c .before .loop .at) (c .before .loop .rows) ++ x) (c .before .loop .inv .3 .rest))
+    owed (start .args .st) (now (start .args .loads)) (now (start .args .solars)) (now (start .args .sheddables)) (now (start .args .rows)) (start .args .run) (at-loop .loop .rows) _ (at-loop .loop .latest) (at-loop .loop .at) (at-loop .loop .i) Accepted (at-loop .loop .inv .3 .within) (over (start .args .st) (now (start .args .loads)) (now (start .args .solars)) (now (start .args .sheddables)) (now (start .args .rows)) (start .args .run) (at-loop .loop .rows) (at-loop .loop .latest) (at-loop .loop .at) (at-loop .loop .i) (at-loop .loop .inv .3) (omega (arith, at-loop .loop .inv .0))) (sym (take-append-drop (at-loop .loop .at) (at-loop .loop .rows)) ∙ ap (λ (x : List ℕ). take (at-loop .loop .at) (at-loop .loop .rows) ++ x) (at-loop .loop .inv .3 .rest))
 
 pub judged-seconds-spec : {M : Type 1} → statement M
 judged-seconds-spec =

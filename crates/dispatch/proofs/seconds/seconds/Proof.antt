@@ -37,7 +37,9 @@ none-worked-requires : tie.Need-none-worked-requires
 none-worked-requires c κs = search needs
 
 returns : tie.Need-returns
-returns c = none-owed (c .before .before .before .before .before .before .before .args .st) (now (c .before .before .before .before .before .before .before .args .loads)) (now (c .before .before .before .before .before .before .before .args .solars)) (now (c .before .before .before .before .before .before .before .args .sheddables)) (now (c .before .before .before .before .before .before .before .args .rows)) (c .before .before .before .before .before .before .before .args .run) _ _ (c .none-worked .ensures) (over (c .before .before .before .before .before .before .before .args .st) (now (c .before .before .before .before .before .before .before .args .loads)) (now (c .before .before .before .before .before .before .before .args .solars)) (now (c .before .before .before .before .before .before .before .args .sheddables)) (now (c .before .before .before .before .before .before .before .args .rows)) (c .before .before .before .before .before .before .before .args .run) (now (c .before .before .before .before .before .before .before .args .rows)) (c .before .before .before .before .before .before .before .args .run) 0 0 (going-start (c .before .before .before .before .before .before .before .args .st) (now (c .before .before .before .before .before .before .before .args .loads)) (now (c .before .before .before .before .before .before .before .args .solars)) (now (c .before .before .before .before .before .before .before .args .sheddables)) (now (c .before .before .before .before .before .before .before .args .rows)) (c .before .before .before .before .before .before .before .args .run)) (omega (arith, c .before .before .places .ensures, c .before .if1 .taken, inputs-length (now (c .before .before .before .before .before .before .before .args .loads)) (now (c .before .before .before .before .before .before .before .args .solars)) (now (c .before .before .before .before .before .before .before .args .sheddables)))))
+returns c =
+    let start = c .before .before .before .before .before .before .before in
+    none-owed (start .args .st) (now (start .args .loads)) (now (start .args .solars)) (now (start .args .sheddables)) (now (start .args .rows)) (start .args .run) _ _ (c .none-worked .ensures) (over (start .args .st) (now (start .args .loads)) (now (start .args .solars)) (now (start .args .sheddables)) (now (start .args .rows)) (start .args .run) (now (start .args .rows)) (start .args .run) 0 0 (going-start (start .args .st) (now (start .args .loads)) (now (start .args .solars)) (now (start .args .sheddables)) (now (start .args .rows)) (start .args .run)) (omega (arith, c .before .before .places .ensures, c .before .if1 .taken, inputs-length (now (start .args .loads)) (now (start .args .solars)) (now (start .args .sheddables)))))
 
 some-file-gives-requires : tie.Need-some-file-gives-requires
 some-file-gives-requires c κs = search needs
@@ -46,7 +48,9 @@ none-worked-requires-2 : tie.Need-none-worked-requires-2
 none-worked-requires-2 c κs = search needs
 
 returns-2 : tie.Need-returns-2
-returns-2 c = none-owed (c .before .before .before .before .before .before .before .before .before .args .st) (now (c .before .before .before .before .before .before .before .before .before .args .loads)) (now (c .before .before .before .before .before .before .before .before .before .args .solars)) (now (c .before .before .before .before .before .before .before .before .before .args .sheddables)) (now (c .before .before .before .before .before .before .before .before .before .args .rows)) (c .before .before .before .before .before .before .before .before .before .args .run) _ _ (c .none-worked2 .ensures) (first-refused (c .before .before .before .before .before .before .before .before .before .args .st) (now (c .before .before .before .before .before .before .before .before .before .args .loads)) (now (c .before .before .before .before .before .before .before .before .before .args .solars)) (now (c .before .before .before .before .before .before .before .before .before .args .sheddables)) (now (c .before .before .before .before .before .before .before .before .before .args .rows)) (c .before .before .before .before .before .before .before .before .before .args .run) StationRecord (some _ _ (c .before .before .before .before .places .ensures ∙ sym (inputs-length (now (c .before .before .before .before .before .before .before .before .before .args .loads)) (now (c .before .before .before .before .before .before .before .before .before .args .solars)) (now (c .before .before .before .before .before .before .before .before .before .args .sheddables)))) (c .before .before .before .if1 .left)) (second-25 (c .before .before .before .before .before .before .before .before .before .args .st) (c .before .before .before .before .before .before .before .before .before .args .run) (inputsAt (now (c .before .before .before .before .before .before .before .before .before .args .loads)) (now (c .before .before .before .before .before .before .before .before .before .args .solars)) (now (c .before .before .before .before .before .before .before .before .before .args .sheddables)) 0) (length (now (c .before .before .before .before .before .before .before .before .before .args .rows))) (sym (c .before .before .some-file-gives .ensures) ∙ not-true _ (c .before .if2 .taken))))
+returns-2 c =
+    let start = c .before .before .before .before .before .before .before .before .before in
+    none-owed (start .args .st) (now (start .args .loads)) (now (start .args .solars)) (now (start .args .sheddables)) (now (start .args .rows)) (start .args .run) _ _ (c .none-worked2 .ensures) (first-refused (start .args .st) (now (start .args .loads)) (now (start .args .solars)) (now (start .args .sheddables)) (now (start .args .rows)) (start .args .run) StationRecord (some _ _ (c .before .before .before .before .places .ensures ∙ sym (inputs-length (now (start .args .loads)) (now (start .args .solars)) (now (start .args .sheddables)))) (c .before .before .before .if1 .left)) (second-25 (start .args .st) (start .args .run) (inputsAt (now (start .args .loads)) (now (start .args .solars)) (now (start .args .sheddables)) 0) (length (now (start .args .rows))) (sym (c .before .before .some-file-gives .ensures) ∙ not-true _ (c .before .if2 .taken))))
 
 possible-requires : tie.Need-possible-requires
 possible-requires c κs = search needs
@@ -55,7 +59,10 @@ none-worked-requires-3 : tie.Need-none-worked-requires-3
 none-worked-requires-3 c κs = search needs
 
 returns-3 : tie.Need-returns-3
-returns-3 c = none-owed (c .before .before .before .before .before .before .before .before .before .before .before .args .st) (now (c .before .before .before .before .before .before .before .before .before .before .before .args .loads)) (now (c .before .before .before .before .before .before .before .before .before .before .before .args .solars)) (now (c .before .before .before .before .before .before .before .before .before .before .before .args .sheddables)) (now (c .before .before .before .before .before .before .before .before .before .before .before .args .rows)) (c .before .before .before .before .before .before .before .before .before .before .before .args .run) _ _ (c .none-worked3 .ensures) (first-refused (c .before .before .before .before .before .before .before .before .before .before .before .args .st) (now (c .before .before .before .before .before .before .before .before .before .before .before .args .loads)) (now (c .before .before .before .before .before .before .before .before .before .before .before .args .solars)) (now (c .before .before .before .before .before .before .before .before .before .before .before .args .sheddables)) (now (c .before .before .before .before .before .before .before .before .before .before .before .args .rows)) (c .before .before .before .before .before .before .before .before .before .before .before .args .run) RunRecord (some _ _ (c .before .before .before .before .before .before .places .ensures ∙ sym (inputs-length (now (c .before .before .before .before .before .before .before .before .before .before .before .args .loads)) (now (c .before .before .before .before .before .before .before .before .before .before .before .args .solars)) (now (c .before .before .before .before .before .before .before .before .before .before .before .args .sheddables)))) (c .before .before .before .before .before .if1 .left)) (second-24 (c .before .before .before .before .before .before .before .before .before .before .before .args .st) (c .before .before .before .before .before .before .before .before .before .before .before .args .run) (inputsAt (now (c .before .before .before .before .before .before .before .before .before .before .before .args .loads)) (now (c .before .before .before .before .before .before .before .before .before .before .before .args .solars)) (now (c .before .before .before .before .before .before .before .before .before .before .before .args .sheddables)) 0) (length (now (c .before .before .before .before .before .before .before .before .before .before .before .args .rows))) (sym (c .before .before .before .before .some-file-gives .ensures) ∙ not-false _ (c .before .before .before .if2 .left)) (sym (c .before .before .possible .ensures) ∙ not-true _ (c .before .if3 .taken))))
+returns-3 c =
+    let after-places = c .before .before .before .before .before .before in
+    let start = after-places .before .before .before .before .before in
+    none-owed (start .args .st) (now (start .args .loads)) (now (start .args .solars)) (now (start .args .sheddables)) (now (start .args .rows)) (start .args .run) _ _ (c .none-worked3 .ensures) (first-refused (start .args .st) (now (start .args .loads)) (now (start .args .solars)) (now (start .args .sheddables)) (now (start .args .rows)) (start .args .run) RunRecord (some _ _ (after-places .places .ensures ∙ sym (inputs-length (now (start .args .loads)) (now (start .args .solars)) (now (start .args .sheddables)))) (c .before .before .before .before .before .if1 .left)) (second-24 (start .args .st) (start .args .run) (inputsAt (now (start .args .loads)) (now (start .args .solars)) (now (start .args .sheddables)) 0) (length (now (start .args .rows))) (sym (c .before .before .before .before .some-file-gives .ensures) ∙ not-false _ (c .before .before .before .if2 .left)) (sym (c .before .before .possible .ensures) ∙ not-true _ (c .before .if3 .taken))))
 
 judged-seconds-requires : tie.Need-judged-seconds-requires
 judged-seconds-requires c κs = ((sym (c .before .before .before .before .some-file-gives .ensures) ∙ not-false _ (c .before .before .before .if2 .left)), sym (c .before .before .possible .ensures) ∙ not-false _ (c .before .if3 .left))

@@ -21,13 +21,21 @@ supply-requires : tie.Need-supply-requires
 supply-requires c κs = search needs
 
 wanted-now-requires : tie.Need-wanted-now-requires
-wanted-now-requires c κs = rw (c .before .before .before .supply .ensures .watts) (wantable (c .before .before .before .before .before .before .args .st) (tables (c .before .before .before .before .before .before)) (c .before .before .before .before .before .before .args .run) (c .before .before .before .before .before .before .args .inputs) (c .before .before .before .before .before .before .pre))
+wanted-now-requires c κs =
+    let start = c .before .before .before .before .before .before in
+    rw (c .before .before .before .supply .ensures .watts) (wantable (start .args .st) (tables (start)) (start .args .run) (start .args .inputs) (start .pre))
 
 commit-requires : tie.Need-commit-requires
-commit-requires c κs = rw (c .before .before .before .before .supply .ensures .states) (switchable (c .before .before .before .before .before .before .before .args .st) (tables (c .before .before .before .before .before .before .before)) (c .before .before .before .before .before .before .before .args .run) (c .before .before .before .before .before .before .before .args .inputs) (c .before .before .before .before .before .before .before .pre) (wattsNow (c .before .before .before .before .before .before .before .args .st) (c .before .before .before .before .before .before .before .args .run) (c .before .before .before .before .before .before .before .args .inputs)))
+commit-requires c κs =
+    let after-before = c .before .before .before .before .before .before in
+    let start = after-before .before in
+    rw (c .before .before .before .before .supply .ensures .states) (switchable (start .args .st) (tables (start)) (start .args .run) (start .args .inputs) (start .pre) (wattsNow (start .args .st) (start .args .run) (start .args .inputs)))
 
 plus-requires : tie.Need-plus-requires
-plus-requires c κs = totals-small (c .before .before .before .before .before .before .before .before .before .args .st) (tables (c .before .before .before .before .before .before .before .before .before)) (c .before .before .before .before .before .before .before .before .before .args .run) (c .before .before .before .before .before .before .before .before .before .args .inputs) (c .before .before .before .before .before .before .before .before .before .pre)
+plus-requires c κs =
+    let after-before = c .before .before .before .before .before .before .before .before in
+    let start = after-before .before in
+    totals-small (start .args .st) (tables (start)) (start .args .run) (start .args .inputs) (start .pre)
 
 add-t18 : tie.Need-add-t18
 add-t18 c = search needs
@@ -36,10 +44,19 @@ since-after-requires : tie.Need-since-after-requires
 since-after-requires c κs = search needs
 
 cast-t19 : tie.Need-cast-t19
-cast-t19 c = omega (arith, call-now (c .before .before .before .before .before .before .before .before .before .before .before .before .before .args .st) (c .before .before .before .before .before .before .before .before .before .before .before .before .before .args .run) (c .before .before .before .before .before .before .before .before .before .before .before .before .before .args .inputs) _ (c .before .before .before .before .before .before .before .before .before .before .supply .ensures) _ (c .before .before .before .before .before .before .wanted-now .ensures) _ (c .before .before .before .before .before .commit .ensures), call-most (c .before .before .before .before .before .before .before .before .before .before .before .before .before .args .st) (tables (c .before .before .before .before .before .before .before .before .before .before .before .before .before)) (c .before .before .before .before .before .before .before .before .before .before .before .before .before .args .run) (c .before .before .before .before .before .before .before .before .before .before .before .before .before .args .inputs) (c .before .before .before .before .before .before .before .before .before .before .before .before .before .pre))
+cast-t19 c =
+    let after-wanted-now = c .before .before .before .before .before .before in
+    let after-supply = after-wanted-now .before .before .before .before in
+    let after-before = after-supply .before .before in
+    let start = after-before .before in
+    omega (arith, call-now (start .args .st) (start .args .run) (start .args .inputs) _ (after-supply .supply .ensures) _ (after-wanted-now .wanted-now .ensures) _ (c .before .before .before .before .before .commit .ensures), call-most (start .args .st) (tables (start)) (start .args .run) (start .args .inputs) (start .pre))
 
 returns : tie.Need-returns
-returns c = step-now (c .before .before .before .before .before .before .before .before .before .before .before .before .before .args .st) (c .before .before .before .before .before .before .before .before .before .before .before .before .before .args .run) (c .before .before .before .before .before .before .before .before .before .before .before .before .before .args .inputs) _ (c .before .before .before .before .before .before .before .before .before .before .supply .ensures) _ (c .before .before .before .before .before .before .wanted-now .ensures) _ (c .before .before .before .before .before .commit .ensures) _ (c .before .since-after .ensures) _ (c .before .before .before .plus .ensures)
+returns c =
+    let after-wanted-now = c .before .before .before .before .before .before in
+    let after-supply = after-wanted-now .before .before .before .before in
+    let start = after-supply .before .before .before in
+    step-now (start .args .st) (start .args .run) (start .args .inputs) _ (after-supply .supply .ensures) _ (after-wanted-now .wanted-now .ensures) _ (c .before .before .before .before .before .commit .ensures) _ (c .before .since-after .ensures) _ (c .before .before .before .plus .ensures)
 
 pub step-spec : {M : Type 1} → statement M
 step-spec =

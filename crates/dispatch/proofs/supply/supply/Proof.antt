@@ -22,7 +22,9 @@ capacity-requires : tie.Need-capacity-requires
 capacity-requires c κs = search needs
 
 cast-cap : tie.Need-cast-cap
-cast-cap c = let h = c .capacity .ensures in let k = capacity-most (c .before .before .before .before .before .before .before .before .args .st) (c .before .before .before .before .before .before .before .before .pre .station-given) (c .before .on-mask .result) in omega arith
+cast-cap c =
+    let start = c .before .before .before .before .before .before .before .before in
+    let h = c .capacity .ensures in let k = capacity-most (start .args .st) (start .pre .station-given) (c .before .on-mask .result) in omega arith
 
 floor-load-requires : tie.Need-floor-load-requires
 floor-load-requires c κs = search needs
@@ -41,25 +43,38 @@ decided-after-requires c κs = search needs
 
 tables : (c : tie.After-decided-after) → Tables (c .before .before .before .before .before .before .before .before .before .before .before .before .before .args .st)
 tables c =
-    let good = c .before .before .before .before .before .before .before .before .before .before .before .before .before .good .0 .1 .1 .1 .1 .1 .1 in
+    let start = c .before .before .before .before .before .before .before .before .before .before .before .before .before in
+    let good = start .good .0 .1 .1 .1 .1 .1 .1 in
     record { sets-length = simp length-map at (good .0 .1 .0 .1); configs-length = simp length-map at (good .1 .0 .1 .0 .1) }
 
 count-all-requires : tie.Need-count-all-requires
 count-all-requires c κs =
+    let after-floor-load = c .before .before .before .before in
+    let after-capacity = after-floor-load .before in
+    let after-on-mask = after-capacity .before in
+    let after-tick-all = after-on-mask .before in
+    let start = after-tick-all .before .before .before .before .before .before in
     rw (
-      states-now (c .before .before .before .before .before .before .before .before .before .before .before .before .before .args .st) (c .before .before .before .before .before .before .before .before .before .before .before .before .before .args .run) (c .before .before .before .before .before .before .before .before .before .before .before .before .before .args .inputs) _ (c .before .before .before .before .before .before .before .tick-all .ensures) _ (c .before .before .before .before .before .before .on-mask .ensures .0) _ (c .before .before .before .before .before .capacity .ensures) _ (c .before .before .before .before .floor-load .ensures),
-      on-now (c .before .before .before .before .before .before .before .before .before .before .before .before .before .args .st) (c .before .before .before .before .before .before .before .before .before .before .before .before .before .args .run) (c .before .before .before .before .before .before .before .before .before .before .before .before .before .args .inputs) _ (c .before .before .before .before .before .before .before .tick-all .ensures) _ (c .before .before .before .before .before .before .on-mask .ensures .0) _ (c .before .before .before .before .before .capacity .ensures) _ (c .before .before .before .before .floor-load .ensures),
-      watts-now (c .before .before .before .before .before .before .before .before .before .before .before .before .before .args .st) (c .before .before .before .before .before .before .before .before .before .before .before .before .before .args .run) (c .before .before .before .before .before .before .before .before .before .before .before .before .before .args .inputs) _ (c .before .before .before .before .before .before .before .tick-all .ensures) _ (c .before .before .before .before .before .before .on-mask .ensures .0) _ (c .before .before .before .before .before .capacity .ensures) _ (c .before .before .before .before .floor-load .ensures) _ (c .before .before .before .flow .ensures .0),
-    ) (countable (c .before .before .before .before .before .before .before .before .before .before .before .before .before .args .st) (tables c) (c .before .before .before .before .before .before .before .before .before .before .before .before .before .args .run) (c .before .before .before .before .before .before .before .before .before .before .before .before .before .args .inputs) (c .before .before .before .before .before .before .before .before .before .before .before .before .before .pre))
+      states-now (start .args .st) (start .args .run) (start .args .inputs) _ (after-tick-all .tick-all .ensures) _ (after-on-mask .on-mask .ensures .0) _ (after-capacity .capacity .ensures) _ (after-floor-load .floor-load .ensures),
+      on-now (start .args .st) (start .args .run) (start .args .inputs) _ (after-tick-all .tick-all .ensures) _ (after-on-mask .on-mask .ensures .0) _ (after-capacity .capacity .ensures) _ (after-floor-load .floor-load .ensures),
+      watts-now (start .args .st) (start .args .run) (start .args .inputs) _ (after-tick-all .tick-all .ensures) _ (after-on-mask .on-mask .ensures .0) _ (after-capacity .capacity .ensures) _ (after-floor-load .floor-load .ensures) _ (c .before .before .before .flow .ensures .0),
+    ) (countable (start .args .st) (tables c) (start .args .run) (start .args .inputs) (start .pre))
 
 returns : tie.Need-returns
-returns c = record {
-  states = ran-now (c .before .before .before .before .before .before .before .before .before .before .before .before .before .before .args .st) (c .before .before .before .before .before .before .before .before .before .before .before .before .before .before .args .run) (c .before .before .before .before .before .before .before .before .before .before .before .before .before .before .args .inputs) _ (c .before .before .before .before .before .before .before .before .tick-all .ensures) _ (c .before .before .before .before .before .before .before .on-mask .ensures .0) _ (c .before .before .before .before .before .before .capacity .ensures) _ (c .before .before .before .before .before .floor-load .ensures) _ (c .before .before .before .before .flow .ensures .0) _ (c .count-all .ensures);
-  on = on-now (c .before .before .before .before .before .before .before .before .before .before .before .before .before .before .args .st) (c .before .before .before .before .before .before .before .before .before .before .before .before .before .before .args .run) (c .before .before .before .before .before .before .before .before .before .before .before .before .before .before .args .inputs) _ (c .before .before .before .before .before .before .before .before .tick-all .ensures) _ (c .before .before .before .before .before .before .before .on-mask .ensures .0) _ (c .before .before .before .before .before .before .capacity .ensures) _ (c .before .before .before .before .before .floor-load .ensures);
-  watts = watts-now (c .before .before .before .before .before .before .before .before .before .before .before .before .before .before .args .st) (c .before .before .before .before .before .before .before .before .before .before .before .before .before .before .args .run) (c .before .before .before .before .before .before .before .before .before .before .before .before .before .before .args .inputs) _ (c .before .before .before .before .before .before .before .before .tick-all .ensures) _ (c .before .before .before .before .before .before .before .on-mask .ensures .0) _ (c .before .before .before .before .before .before .capacity .ensures) _ (c .before .before .before .before .before .floor-load .ensures) _ (c .before .before .before .before .flow .ensures .0);
-  store = store-now (c .before .before .before .before .before .before .before .before .before .before .before .before .before .before .args .st) (c .before .before .before .before .before .before .before .before .before .before .before .before .before .before .args .run) (c .before .before .before .before .before .before .before .before .before .before .before .before .before .before .args .inputs) _ (c .before .before .before .before .before .before .before .before .tick-all .ensures) _ (c .before .before .before .before .before .before .before .on-mask .ensures .0) _ (c .before .before .before .before .before .before .capacity .ensures) _ (c .before .before .before .before .before .floor-load .ensures) _ (c .before .before .before .before .flow .ensures .0) _ (c .before .before .before .before .flow .ensures .1);
-  decided = decided-now (c .before .before .before .before .before .before .before .before .before .before .before .before .before .before .args .st) (c .before .before .before .before .before .before .before .before .before .before .before .before .before .before .args .run) (c .before .before .before .before .before .before .before .before .before .before .before .before .before .before .args .inputs) _ (c .before .before .before .before .before .before .before .before .tick-all .ensures) _ (c .before .before .before .before .before .before .before .on-mask .ensures .0) _ (c .before .before .before .before .before .before .capacity .ensures) _ (c .before .before .before .before .before .floor-load .ensures) _ (c .before .before .before .before .flow .ensures .0) _ _ (delay-range (c .before .before .before .before .before .before .before .before .before .before .before .before .before .before .args .st .setcount) (c .before .before .before .before .before .before .before .before .before .before .before .before .before .before .args .st .control) (right-of (c .before .before .before .before .before .before .before .before .before .before .before .before .before .before .args .st) (c .before .before .before .before .before .before .before .before .before .before .before .before .before .before .pre .station-given) .control) .0) (c .before .before .shed-decided .ensures) (c .before .decided-after .ensures);
-}
+returns c =
+    let after-flow = c .before .before .before .before in
+    let after-floor-load = after-flow .before in
+    let after-capacity = after-floor-load .before in
+    let after-on-mask = after-capacity .before in
+    let after-tick-all = after-on-mask .before in
+    let start = after-tick-all .before .before .before .before .before .before in
+    record {
+      states = ran-now (start .args .st) (start .args .run) (start .args .inputs) _ (after-tick-all .tick-all .ensures) _ (after-on-mask .on-mask .ensures .0) _ (after-capacity .capacity .ensures) _ (after-floor-load .floor-load .ensures) _ (after-flow .flow .ensures .0) _ (c .count-all .ensures);
+      on = on-now (start .args .st) (start .args .run) (start .args .inputs) _ (after-tick-all .tick-all .ensures) _ (after-on-mask .on-mask .ensures .0) _ (after-capacity .capacity .ensures) _ (after-floor-load .floor-load .ensures);
+      watts = watts-now (start .args .st) (start .args .run) (start .args .inputs) _ (after-tick-all .tick-all .ensures) _ (after-on-mask .on-mask .ensures .0) _ (after-capacity .capacity .ensures) _ (after-floor-load .floor-load .ensures) _ (after-flow .flow .ensures .0);
+      store = store-now (start .args .st) (start .args .run) (start .args .inputs) _ (after-tick-all .tick-all .ensures) _ (after-on-mask .on-mask .ensures .0) _ (after-capacity .capacity .ensures) _ (after-floor-load .floor-load .ensures) _ (after-flow .flow .ensures .0) _ (after-flow .flow .ensures .1);
+      decided = decided-now (start .args .st) (start .args .run) (start .args .inputs) _ (after-tick-all .tick-all .ensures) _ (after-on-mask .on-mask .ensures .0) _ (after-capacity .capacity .ensures) _ (after-floor-load .floor-load .ensures) _ (after-flow .flow .ensures .0) _ _ (delay-range (start .args .st .setcount) (start .args .st .control) (right-of (start .args .st) (start .pre .station-given) .control) .0) (c .before .before .shed-decided .ensures) (c .before .decided-after .ensures);
+    }
 
 pub supply-spec : {M : Type 1} → statement M
 supply-spec =
