@@ -1,0 +1,91 @@
+-- `second_speed::work::work_many` is safe and ends. The buffer keeps its length; the turns that are left fall. Assumes nothing.
+use mathlib.Core.Path.{_≡_}
+use lib.ListN.{length}
+use borrow.Author.Needs.{needs}
+use Rattle.second_speed.proofs.work.work_many.Statement.{statement}
+use Rattle.second_speed.proofs.work.work_many.Tie as tie
+
+abbrev Inv-loop : tie.InvT-loop
+Inv-loop st asked shown rows₀ tally₀ turns₀ rows tally turns = length rows ≡ length rows₀
+
+abbrev μ-loop : tie.MeasureT-loop
+μ-loop st asked shown rows₀ tally₀ turns₀ rows tally turns = turns
+
+no-bytes-requires : tie.Need-no-bytes-requires Inv-loop μ-loop
+no-bytes-requires c κs = search needs
+
+loop-holds : tie.Need-loop-holds Inv-loop μ-loop
+loop-holds c = search needs
+
+sub-turns : tie.Need-sub-turns Inv-loop μ-loop
+sub-turns c = search needs
+
+next-count-requires : tie.Need-next-count-requires Inv-loop μ-loop
+next-count-requires c κs = search needs
+
+same-length : tie.Need-same-length Inv-loop μ-loop
+same-length c = search needs
+
+returns : tie.Need-returns Inv-loop μ-loop
+returns c = search needs
+
+work-batch-requires : tie.Need-work-batch-requires Inv-loop μ-loop
+work-batch-requires c κs = search needs
+
+with-batch-requires : tie.Need-with-batch-requires Inv-loop μ-loop
+with-batch-requires c κs = search needs
+
+wrote-start-requires : tie.Need-wrote-start-requires Inv-loop μ-loop
+wrote-start-requires c κs = search needs
+
+same-length-2 : tie.Need-same-length-2 Inv-loop μ-loop
+same-length-2 c = search needs
+
+returns-2 : tie.Need-returns-2 Inv-loop μ-loop
+returns-2 c = search needs
+
+goes-on-requires : tie.Need-goes-on-requires Inv-loop μ-loop
+goes-on-requires c κs = search needs
+
+same-length-3 : tie.Need-same-length-3 Inv-loop μ-loop
+same-length-3 c = search needs
+
+returns-3 : tie.Need-returns-3 Inv-loop μ-loop
+returns-3 c = search needs
+
+loop-less : tie.Need-loop-less Inv-loop μ-loop
+loop-less c = search needs
+
+loop-again : tie.Need-loop-again Inv-loop μ-loop
+loop-again c = search needs
+
+same-length-4 : tie.Need-same-length-4 Inv-loop μ-loop
+same-length-4 c = search needs
+
+returns-4 : tie.Need-returns-4 Inv-loop μ-loop
+returns-4 c = search needs
+
+pub work-many-spec : {M : Type 1} → statement M
+work-many-spec =
+    tie.close
+    (tie.spec
+    Inv-loop
+    μ-loop
+    no-bytes-requires
+    loop-holds
+    sub-turns
+    next-count-requires
+    same-length
+    returns
+    work-batch-requires
+    with-batch-requires
+    wrote-start-requires
+    same-length-2
+    returns-2
+    goes-on-requires
+    same-length-3
+    returns-3
+    loop-less
+    loop-again
+    same-length-4
+    returns-4)
