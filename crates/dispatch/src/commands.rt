@@ -111,7 +111,7 @@ pub(crate) fn command_all(sets: [GenSet; 8], states: [SetState; 8], mask: u32) -
     let mut i: usize = 0;
     while i < 8 {
         let genset = sets[i];
-        let state = states[i];
+        let state = out[i];
         out[i] = command(genset, state, has_set(mask, i), release);
         i += 1;
     }

@@ -50,7 +50,7 @@ pub(crate) fn count_all(
     let mut i: usize = 0;
     while i < 8 {
         let genset = sets[i];
-        let state = states[i];
+        let state = out[i];
         out[i] = count(genset, state, watts[i]);
         i += 1;
     }

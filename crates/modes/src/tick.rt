@@ -62,7 +62,7 @@ pub fn tick_all(sets: [GenSet; 8], states: [SetState; 8]) -> [SetState; 8]
     let mut i: usize = 0;
     while i < 8 {
         let genset = sets[i];
-        let state = states[i];
+        let state = out[i];
         out[i] = tick(genset, state);
         i += 1;
     }

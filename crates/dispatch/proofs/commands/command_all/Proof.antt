@@ -1,18 +1,18 @@
 -- `dispatch::commands::command_all` meets its contract. Assumes nothing.
 use borrow.Author.Needs.{needs}
 use Prim.Native.Nat.{ℕ, _-_, _≤_, _<_}
-use mathlib.Core.Path.{_≡_, refl, _∙_}
+use mathlib.Core.Path.{_≡_, _∙_}
 use mathlib.Core.List.{List}
 use native.Mathlib.Omega.{arith}
-use lib.ListN.{length, take, length-set}
 use Rattle.rules.specs.declared.station.GenSet.{GenSet}
+use Rattle.rules.specs.declared.run.Mode.the-variants.{Off}
 use Rattle.rules.specs.declared.run.SetState.{SetState}
-use Rattle.rules.specs.Numbers.{has, tab}
+use Rattle.rules.specs.Numbers.{has}
 use Rattle.rules.specs.StationRecord.{pastEnd, setAt}
-use Rattle.rules.specs.Modes.{stateAt}
+use Rattle.rules.specs.Modes.{fresh, stateAt}
 use Rattle.rules.specs.Commands.{command, everyOn, commandedAll}
 use Rattle.dispatch.specs.Sized.{SwitchableAll}
-use Rattle.modes.proofs.Filled.{filled, whole}
+use Rattle.modes.proofs.Filled.{Filling, filling-start, filling-at, filling-more, filling-whole}
 use Rattle.dispatch.proofs.commands.command_all.Statement.{statement}
 use Rattle.dispatch.proofs.commands.command_all.Tie as tie
 
@@ -21,18 +21,17 @@ abbrev commandedAt : List GenSet → List SetState → ℕ → ℕ → SetState
 commandedAt sets states mask i = command (setAt sets i) (stateAt states i) (has mask i) (everyOn states mask)
 
 abbrev Inv-loop : tie.InvT-loop
-Inv-loop mask sets states release out₀ i₀ out i =
-    SwitchableAll states × (release ≡ everyOn states mask) × (i ≤ 8) × (length out ≡ 8) × (take i out ≡ tab i (commandedAt sets states mask))
+Inv-loop mask sets release out₀ i₀ out i =
+    SwitchableAll out₀ × (release ≡ everyOn out₀ mask) × Filling (commandedAt sets out₀ mask) out₀ 8 i out
 
 abbrev μ-loop : tie.MeasureT-loop
-μ-loop mask sets states release out₀ i₀ out i = 8 - i
+μ-loop mask sets release out₀ i₀ out i = 8 - i
 
 every-on-requires : tie.Need-every-on-requires Inv-loop μ-loop
 every-on-requires c κs = search needs
 
 loop-holds : tie.Need-loop-holds Inv-loop μ-loop
-unfolding tab
-loop-holds c = (c .before .pre, c .every-on .ensures, omega arith, search needs, refl)
+loop-holds c = (c .before .pre, c .every-on .ensures, filling-start _ _ 8 (search needs))
 
 mul-genset : tie.Need-mul-genset Inv-loop μ-loop
 mul-genset c = omega arith
@@ -53,7 +52,7 @@ command-requires : tie.Need-command-requires Inv-loop μ-loop
 unfolding stateAt
 command-requires c κs =
     let at-loop = c .before .before .before .before in
-    at-loop .loop .inv .0 .each (at-loop .loop .i) (search needs)
+    rw (filling-at _ _ 8 (at-loop .loop .i) _ (at-loop .loop .inv .2) _) (at-loop .loop .inv .0 .each (at-loop .loop .i) (search needs))
 
 mul-out : tie.Need-mul-out Inv-loop μ-loop
 mul-out c = omega arith
@@ -71,11 +70,12 @@ loop-again : tie.Need-loop-again Inv-loop μ-loop
 unfolding setAt stateAt pastEnd
 loop-again c =
     let at-loop = c .before .before .before .before .before in
-    (at-loop .loop .inv .0, at-loop .loop .inv .1, omega arith, simp length-set (at-loop .loop .inv .3), filled _ _ (at-loop .loop .i) (at-loop .loop .inv .4) _ (omega (arith, at-loop .loop .inv .3)) (c .command .ensures ∙ rw (c .before .has-set .ensures, at-loop .loop .inv .1)))
+    let own = filling-at _ _ 8 (at-loop .loop .i) _ (at-loop .loop .inv .2) (fresh Off) in
+    (at-loop .loop .inv .0, at-loop .loop .inv .1, filling-more _ _ 8 (at-loop .loop .i) _ (at-loop .loop .inv .2) (search needs) _ (c .command .ensures ∙ rw (own, c .before .has-set .ensures, at-loop .loop .inv .1)))
 
 returns : tie.Need-returns Inv-loop μ-loop
 unfolding commandedAll
-returns c = whole _ _ (c .before .loop .i) (c .before .loop .inv .4) 8 (c .before .loop .inv .3) (omega arith) (omega arith)
+returns c = filling-whole _ _ 8 (c .before .loop .i) _ (c .before .loop .inv .2) (omega arith)
 
 pub command-all-spec : {M : Type 1} → statement M
 command-all-spec =

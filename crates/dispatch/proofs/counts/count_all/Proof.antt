@@ -4,21 +4,22 @@ use Prim.Native.Nat.{ℕ, _+_, _-_, _≤_, _<_}
 use mathlib.Core.Path.{_≡_, refl, sym, ap, _∙_}
 use mathlib.Core.List.{List}
 use native.Mathlib.Omega.{arith}
-use lib.ListN.{length, getD, take, replicate, length-set}
+use lib.ListN.{length, getD, replicate}
 use Rattle.rules.specs.declared.station.GenSet.{GenSet}
+use Rattle.rules.specs.declared.run.Mode.the-variants.{Off}
 use Rattle.rules.specs.declared.run.SetState.{SetState}
 use Rattle.rules.specs.Numbers.{tab}
 use Rattle.rules.specs.Answers.{valueOr}
 use Rattle.rules.specs.StationRecord.{pastEnd, setAt}
 use Rattle.rules.specs.Share.{share}
-use Rattle.rules.specs.Modes.{stateAt}
+use Rattle.rules.specs.Modes.{fresh, stateAt}
 use Rattle.rules.specs.Commands.{counted, countedAll}
 use Rattle.rules.proofs.Tables.{tab-at, length-tab}
 use Rattle.laws.proofs.Share.{share-most}
 use Rattle.gensets.specs.Leaves.{sharesAsked}
 use Rattle.gensets.proofs.SharesAsked.{asked-within}
 use Rattle.dispatch.specs.Sized.{Countable, CountableAll}
-use Rattle.modes.proofs.Filled.{filled, whole}
+use Rattle.modes.proofs.Filled.{Filling, filling-start, filling-at, filling-more, filling-whole}
 use Rattle.dispatch.proofs.counts.count_all.Statement.{statement}
 use Rattle.dispatch.proofs.counts.count_all.Tie as tie
 
@@ -43,19 +44,18 @@ module _ (sets : List GenSet) (states : List SetState) (mask diesel : ℕ) (h : 
     }
 
 abbrev Inv-loop : tie.InvT-loop
-Inv-loop mask diesel sets states watts out₀ i₀ out i =
-    CountableAll sets states mask diesel × (watts ≡ tab 8 (share sets mask diesel)) × (i ≤ 8) × (length out ≡ 8) × (take i out ≡ tab i (countedAt sets states mask diesel))
+Inv-loop mask diesel sets watts out₀ i₀ out i =
+    CountableAll sets out₀ mask diesel × (watts ≡ tab 8 (share sets mask diesel)) × Filling (countedAt sets out₀ mask diesel) out₀ 8 i out
 
 abbrev μ-loop : tie.MeasureT-loop
-μ-loop mask diesel sets states watts out₀ i₀ out i = 8 - i
+μ-loop mask diesel sets watts out₀ i₀ out i = 8 - i
 
 shares-requires : tie.Need-shares-requires Inv-loop μ-loop
 shares-requires c κs = search needs
 
 loop-holds : tie.Need-loop-holds Inv-loop μ-loop
-unfolding tab
 loop-holds c =
-    (c .before .before .pre, shared _ _ _ _ (c .before .before .pre) _ (c .before .shares .ensures .1), omega arith, search needs, refl)
+    (c .before .before .pre, shared _ _ _ _ (c .before .before .pre) _ (c .before .shares .ensures .1), filling-start _ _ 8 (search needs))
 
 mul-genset : tie.Need-mul-genset Inv-loop μ-loop
 mul-genset c = omega arith
@@ -79,7 +79,8 @@ count-requires : tie.Need-count-requires Inv-loop μ-loop
 unfolding setAt stateAt pastEnd
 count-requires c κs =
     let at-loop = c .before .before .before in
-    countable _ _ _ _ (at-loop .loop .inv .0) _ (at-loop .loop .inv .1) (at-loop .loop .i) (search needs)
+    let l : at-loop .loop .i < 8 = search needs in
+    rw (filling-at _ _ 8 (at-loop .loop .i) _ (at-loop .loop .inv .2) _) (countable _ _ _ _ (at-loop .loop .inv .0) _ (at-loop .loop .inv .1) (at-loop .loop .i) l)
 
 mul-out : tie.Need-mul-out Inv-loop μ-loop
 mul-out c = omega arith
@@ -99,11 +100,12 @@ loop-again c =
     let at-loop = c .before .before .before .before in
     let l : at-loop .loop .i < 8 = search needs in
     let e = power-is _ _ _ _ (at-loop .loop .inv .0) _ (at-loop .loop .inv .1) (at-loop .loop .i) l in
-    (at-loop .loop .inv .0, at-loop .loop .inv .1, omega arith, simp length-set (at-loop .loop .inv .3), filled _ _ (at-loop .loop .i) (at-loop .loop .inv .4) _ (omega (arith, at-loop .loop .inv .3)) (c .count .ensures ∙ rw e))
+    let own = filling-at _ _ 8 (at-loop .loop .i) _ (at-loop .loop .inv .2) (fresh Off) in
+    (at-loop .loop .inv .0, at-loop .loop .inv .1, filling-more _ _ 8 (at-loop .loop .i) _ (at-loop .loop .inv .2) l _ (c .count .ensures ∙ rw (own, e)))
 
 returns : tie.Need-returns Inv-loop μ-loop
 unfolding countedAll
-returns c = whole _ _ (c .before .loop .i) (c .before .loop .inv .4) 8 (c .before .loop .inv .3) (omega arith) (omega arith)
+returns c = filling-whole _ _ 8 (c .before .loop .i) _ (c .before .loop .inv .2) (omega arith)
 
 pub count-all-spec : {M : Type 1} → statement M
 count-all-spec =

@@ -1,16 +1,14 @@
--- `modes::tick::tick_all` meets its contract: the loop stores the table of the ticked states place by place. Assumes nothing.
-use Prim.Native.Nat.{ℕ, _-_, _≤_}
-use mathlib.Core.Path.{_≡_, refl}
+-- `modes::tick::tick_all` meets its contract: the loop changes the states in place, one after the other. Assumes nothing.
+use Prim.Native.Nat.{ℕ, _-_}
+use mathlib.Core.Path.{_≡_, ap, _∙_}
 use mathlib.Core.List.{List}
 use borrow.Author.Needs.{needs}
 use native.Mathlib.Omega.{arith}
-use lib.ListN.{length, take, length-set}
 use Rattle.rules.specs.declared.station.GenSet.{GenSet}
 use Rattle.rules.specs.declared.run.SetState.{SetState}
-use Rattle.rules.specs.Numbers.{tab}
 use Rattle.rules.specs.StationRecord.{pastEnd, setAt}
 use Rattle.rules.specs.Modes.{stateAt, tick, ticked}
-use Rattle.modes.proofs.Filled.{filled, whole}
+use Rattle.modes.proofs.Filled.{Filling, filling-start, filling-at, filling-more, filling-whole}
 use Rattle.modes.proofs.tick.tick_all.Statement.{statement}
 use Rattle.modes.proofs.tick.tick_all.Tie as tie
 
@@ -18,14 +16,13 @@ abbrev tickAt : List GenSet → List SetState → ℕ → SetState
 tickAt sets states j = tick (setAt sets j) (stateAt states j)
 
 abbrev Inv-loop : tie.InvT-loop
-Inv-loop sets states out₀ i₀ out i = (i ≤ 8) × (length out ≡ 8) × (take i out ≡ tab i (tickAt sets states))
+Inv-loop sets out₀ i₀ out i = Filling (tickAt sets out₀) out₀ 8 i out
 
 abbrev μ-loop : tie.MeasureT-loop
-μ-loop sets states out₀ i₀ out i = 8 - i
+μ-loop sets out₀ i₀ out i = 8 - i
 
 loop-holds : tie.Need-loop-holds Inv-loop μ-loop
-unfolding tab
-loop-holds c = (omega arith, search needs, refl)
+loop-holds c = filling-start _ _ 8 (search needs)
 
 mul-genset : tie.Need-mul-genset Inv-loop μ-loop
 mul-genset c = search needs
@@ -58,17 +55,11 @@ loop-again : tie.Need-loop-again Inv-loop μ-loop
 unfolding setAt stateAt pastEnd
 loop-again c =
     let at = c .before .before .before .before in
-    let a = at .before .args in
-    let i = at .loop .inv in
-    (omega arith, simp length-set (omega arith), filled (tickAt (a .t1) (a .t2)) (at .loop .out) (at .loop .i) (i .2) (c .tick .result) (omega arith) (c .tick .ensures))
+    filling-more _ _ 8 (at .loop .i) _ (at .loop .inv) (omega arith) _ (c .tick .ensures ∙ ap (tick _) (filling-at _ _ 8 (at .loop .i) _ (at .loop .inv) _))
 
 returns : tie.Need-returns Inv-loop μ-loop
 unfolding ticked
-returns c =
-    let at = c .before in
-    let a = at .before .args in
-    let i = at .loop .inv in
-    whole (tickAt (a .t1) (a .t2)) (at .loop .out) (at .loop .i) (i .2) 8 (i .1) (i .0) (omega arith)
+returns c = filling-whole _ _ 8 (c .before .loop .i) _ (c .before .loop .inv) (omega arith)
 
 pub tick-all-spec : {M : Type 1} → statement M
 tick-all-spec =
