@@ -1,5 +1,7 @@
--- Laws of decimal numbers, of a text that grows in a buffer, of a row's line and its length, and of the row in the buffer.
+-- Laws of decimal numbers, of a text that grows in a buffer, of a row's line and its length, of the text in the buffer, and of the other lines.
 pub mod Decimals
 pub mod Texts
 pub mod Lines
 pub mod RowInBuffer
+pub mod SetLine
+pub mod Lengths

@@ -1,10 +1,11 @@
 -- A text that grows at the front of a buffer. Assumes nothing.
 use Prim.Native.Nat.{ℕ, _+_, _-_, _≤_, _<_, min}
-use mathlib.Core.Path.{_≡_, sym, ap, _∙_}
+use mathlib.Core.Path.{_≡_, refl, sym, ap, _∙_}
 use mathlib.Core.List.{List, [], _∷_, _++_, append-assoc, append-nil}
 use native.Mathlib.Omega.{arith}
-use lib.ListN.{length, take, drop, set, length-append, length-take, length-drop, drop-of-length-le}
-use lib.Seq.{drop-drop, take-at, drop-at, take-all}
+use native.Mathlib.Numerals.{add-one}
+use lib.ListN.{length, take, drop, set, getD, length-append, length-take, length-drop, drop-of-length-le, take-append-drop}
+use lib.Seq.{drop-drop, take-at, drop-at, take-all, take-suc}
 use Rattle.rows.specs.Written.{Front, placed}
 use Rattle.rows.proofs.Decimals.{stored}
 
@@ -33,6 +34,29 @@ goes-on l a t b b′ at at′ f e q =
     let x : take at b ≡ a = rw (f .1) (take-at a (drop (length a) l) at (sym (f .0))) in
     let y : drop at b ≡ drop (length a) l = rw (f .1) (drop-at a (drop (length a) l) at (sym (f .0))) in
     (omega (arith, f .0, length-append a t), q ∙ rw (x, y, length-append a t, append-assoc, ← drop-drop))
+
+-- a byte more at the end of the text at the front
+pub byte-more : (l d b : List ℕ) (k x : ℕ) → length d < length l → Front l d k b → Front l (d ++ (x ∷ [])) (k + 1) (set b k x)
+byte-more l d b k x h f =
+    let e : length (d ++ (x ∷ [])) ≡ length d + 1 = length-append d (x ∷ []) in
+    (omega (arith, f .0), rw (f .1, f .0, e) (stored d l x h))
+
+-- the first bytes of a text, and one more of them
+pub copied : (l t b : List ℕ) (i : ℕ) → i < length t → length t ≤ length l → Front l (take i t) i b → Front l (take (i + 1) t) (i + 1) (set b i (getD t i 0))
+copied l t b i h k f =
+    rw (add-one i, take-suc t i 0 h) (rw (← add-one i) (byte-more l (take i t) b i (getD t i 0) (omega (arith, f .0)) f))
+
+-- ---- a text from a place of the buffer on
+
+-- nothing is written yet
+pub from-here : (l : List ℕ) (at : ℕ) → at ≤ length l → Front l (take at l ++ []) at l
+from-here l at h =
+    let e : length (take at l) ≡ at = length-take at l ∙ (let m : min at (length l) ≡ at = omega arith in m) in
+    rw (append-nil, e) (refl, sym (take-append-drop at l))
+
+-- the bytes before it and it stand at the front
+pub stands : (l t b : List ℕ) (at end : ℕ) → at ≤ length l → Front l (take at l ++ t) end b → (end ≡ at + length t) × (b ≡ placed l at t)
+stands l t b at end h f = (f .0 ∙ length-front l at h t, f .1 ∙ sym (placed-front l at h t))
 
 -- ---- the tail of a buffer that was lent and has come back
 

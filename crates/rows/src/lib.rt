@@ -1,3 +1,5 @@
-// A second's row, written into the buffer that the caller lends.
+// The lines that a run prints, each written into the buffer that the caller lends.
 mod decimal;
 pub mod row;
+pub mod run_lines;
+mod text;

@@ -1,30 +1,16 @@
 // "Each number is written after the comma already in the line buffer; a second answers the row's length, LF counted, and bytes past the row stay."
-ghost use mathlib.Core.Path.{_≡_};
 ghost use mathlib.Core.List.{[], _∷_, _++_};
-ghost use Prim.Native.Nat.{_+_, _≤_, _<_};
+ghost use Prim.Native.Nat.{_≤_};
 ghost use lib.ListN.{length};
-ghost use Rattle.rules.specs.Bytes.{decimal, commaLine};
-ghost use Rattle.rows.specs.Written.{Front, ended, placed, RowPut};
-use crate::decimal::put_decimal;
+ghost use Rattle.rules.specs.Bytes.{commaLine};
+ghost use Rattle.rows.specs.Written.{Front, RowPut};
+use crate::text::COMMA;
+use crate::text::LF;
+use crate::text::put_number;
 use rules::answers::Outcome;
 use rules::answers::Refusal;
 use rules::limits::LEAST_ROW_BUFFER;
 use rules::run::Row;
-
-const COMMA: u8 = 44;
-
-const LF: u8 = 10;
-
-// A number from `at` on and the byte after it: where the row goes on.
-fn put_number(number: u64, after: u8, at: usize, buffer: &mut [u8]) -> usize
-    requires { ⌜ at + length (decimal number) < length (now buffer) ⌝ }
-    ensures { λ r. ⌜ (r ≡ at + length (ended number after)) × (now (buffer .exit) ≡ placed (now (buffer .entry)) at (ended number after)) ⌝ }
-{
-    let digits = put_decimal(number, &mut buffer[at..]);
-    let end = at + digits;
-    buffer[end] = after;
-    end + 1
-}
 
 // The line of a row's thirteen numbers: its length.
 fn put_line(columns: [u32; 12], store: u64, buffer: &mut [u8]) -> usize

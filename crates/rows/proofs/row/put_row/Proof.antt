@@ -2,13 +2,13 @@
 use native.Mathlib.Omega.{arith}
 use denote.Ref.{now}
 use Rattle.rules.specs.Row.{rowText}
-use Rattle.rows.proofs.RowInBuffer.{row-refused, row-written}
+use Rattle.rows.proofs.RowInBuffer.{text-refused, text-written}
 use borrow.Author.Needs.{needs}
 use Rattle.rows.proofs.row.put_row.Statement.{statement}
 use Rattle.rows.proofs.row.put_row.Tie as tie
 
 returns : tie.Need-returns
-returns c = let s = c .before .before in row-refused (s .args .row) (now (s .args .buffer)) (c .if1 .taken)
+returns c = let s = c .before .before in text-refused (rowText (s .args .row)) (now (s .args .buffer)) (c .if1 .taken)
 
 put-line-requires : tie.Need-put-line-requires
 put-line-requires c κs = search needs
@@ -20,7 +20,7 @@ returns-2 : tie.Need-returns-2
 unfolding rowText
 returns-2 c =
     let s = c .before .before .before .before .before .before .before in
-    row-written (s .args .row) (now (s .args .buffer)) _ _ (omega arith) (c .before .before .put-line .ensures)
+    text-written (rowText (s .args .row)) (now (s .args .buffer)) _ _ (omega arith) (c .before .before .put-line .ensures)
 
 pub put-row-spec : {M : Type 1} → statement M
 put-row-spec = tie.close (tie.spec returns put-line-requires same-length returns-2)

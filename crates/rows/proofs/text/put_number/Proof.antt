@@ -6,8 +6,8 @@ use Rattle.rows.specs.Written.{ended}
 use Rattle.rows.proofs.Texts.{tail-ended}
 use Rattle.rows.proofs.Lines.{length-ended}
 use borrow.Author.Needs.{needs}
-use Rattle.rows.proofs.row.put_number.Statement.{statement}
-use Rattle.rows.proofs.row.put_number.Tie as tie
+use Rattle.rows.proofs.text.put_number.Statement.{statement}
+use Rattle.rows.proofs.text.put_number.Tie as tie
 
 sub-put-decimal : tie.Need-sub-put-decimal
 sub-put-decimal c = search needs

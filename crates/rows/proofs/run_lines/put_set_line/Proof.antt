@@ -1,0 +1,53 @@
+-- `put_set_line` meets its contract: a small buffer is refused, and any other takes the line of the six numbers. Assumes nothing.
+use mathlib.Core.Path.{refl}
+use mathlib.Core.List.{[]}
+use native.Mathlib.Omega.{arith}
+use denote.Ref.{now}
+use borrow.Author.Needs.{needs}
+use Rattle.rows.specs.SetLine.{setLine}
+use Rattle.rows.proofs.Texts.{goes-on}
+use Rattle.rows.proofs.RowInBuffer.{text-refused, text-written}
+use Rattle.rows.proofs.run_lines.put_set_line.Statement.{statement}
+use Rattle.rows.proofs.run_lines.put_set_line.Tie as tie
+
+returns : tie.Need-returns
+returns c = let a = c .before .before .args in text-refused (setLine (a .number) (a .state)) (now (a .buffer)) (c .if1 .taken)
+
+cast-t9 : tie.Need-cast-t9
+cast-t9 c = search needs
+
+cast-t10 : tie.Need-cast-t10
+cast-t10 c = search needs
+
+cast-t11 : tie.Need-cast-t11
+cast-t11 c = search needs
+
+slice-aggregate-put-numbers : tie.Need-slice-aggregate-put-numbers
+slice-aggregate-put-numbers c = search needs
+
+put-numbers-requires : tie.Need-put-numbers-requires
+put-numbers-requires c κs = (omega arith, omega (arith, c .before .before .before .before .before .if1 .left))
+
+same-length : tie.Need-same-length
+same-length c = search needs
+
+returns-2 : tie.Need-returns-2
+unfolding setLine
+returns-2 c =
+    let a = c .before .before .before .before .before .before .before .before .before .before .args in
+    let p = c .before .before .put-numbers in
+    let lent = now (a .buffer) in
+    text-written (setLine (a .number) (a .state)) lent _ _ (omega (arith, c .before .before .before .before .before .before .before .before .if1 .left)) (goes-on lent [] (setLine (a .number) (a .state)) lent _ 0 _ (refl, refl) (p .ensures .0) (p .ensures .1))
+
+pub put-set-line-spec : {M : Type 1} → statement M
+put-set-line-spec =
+    tie.close
+    (tie.spec
+    returns
+    cast-t9
+    cast-t10
+    cast-t11
+    slice-aggregate-put-numbers
+    put-numbers-requires
+    same-length
+    returns-2)
