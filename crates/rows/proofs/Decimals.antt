@@ -1,4 +1,4 @@
--- Laws of decimal numbers: that enough room gives the same digits, the two cases of the code, and how many digits there are.
+-- Laws of decimal numbers: that enough room gives the same digits, one digit and more, and how many digits there are.
 -- Assumes nothing.
 use Prim.Native.Nat.{ℕ, zero, suc, _+_, _*_, _/_, _%_, _^_, _≤_, _<_}
 use mathlib.Core.Path.{_≡_, refl, sym, ap, _∙_}
@@ -40,7 +40,7 @@ pub decimal-in : (f n : ℕ) → n < 10 ^ suc f → decimal n ≡ digitsIn f n
 unfolding decimal
 decimal-in f n h = enough n f n (below-pow n) h
 
--- ---- the two cases of the code
+-- ---- one digit, and more
 
 pub decimal-one : (n : ℕ) → n < 10 → decimal n ≡ (48 + n) ∷ []
 unfolding digitsIn
@@ -51,9 +51,6 @@ unfolding digitsIn
 decimal-more n h =
     let b = below-pow n in
     decimal-in (suc n) n (rw pow-suc (omega arith)) ∙ rw (le-ltb n 10 h) (ap (λ (l : List ℕ). l ++ ((48 + n % 10) ∷ [])) (sym (decimal-in n (n / 10) (omega arith))))
-
-pub length-more : (n : ℕ) → 10 ≤ n → length (decimal n) ≡ length (decimal (n / 10)) + 1
-length-more n h = ap length (decimal-more n h) ∙ length-append (decimal (n / 10)) ((48 + n % 10) ∷ [])
 
 -- ---- how many digits
 
@@ -76,7 +73,7 @@ digits-32 n h = most-digits 9 n (omega arith)
 pub digits-64 : (n : ℕ) → n < 2 ^ 64 → length (decimal n) ≤ 20
 digits-64 n h = most-digits 19 n (omega arith)
 
--- ---- the two answers of the code
+-- ---- in a buffer
 
 -- what stands after a text, once a byte more is stored
 pub stored : (d l : List ℕ) (x : ℕ) → length d < length l → set (d ++ drop (length d) l) (length d) x ≡ (d ++ (x ∷ [])) ++ drop (length d + 1) l
@@ -89,9 +86,3 @@ put-one n l h k = rw (decimal-one n h) (refl, go l (rw (decimal-one n h) at k))
     go : (l : List ℕ) → 1 ≤ length l → set l 0 (48 + n) ≡ (48 + n) ∷ drop 1 l
     go [] k = absurd (omega arith)
     go (x ∷ l) k = refl
-
-pub put-more : (n : ℕ) (l l′ : List ℕ) (k : ℕ) → 10 ≤ n → length (decimal n) ≤ length l
-    → Front l (decimal (n / 10)) k l′ → Front l (decimal n) (k + 1) (set l′ k (48 + n % 10))
-put-more n l l′ k h room f =
-    let m = length-more n h in
-    (omega arith, rw (f .0, f .1, m, decimal-more n h) (stored (decimal (n / 10)) l (48 + n % 10) (omega arith)))

@@ -1,5 +1,7 @@
 -- Laws of decimal numbers, of a text that grows in a buffer, of a row's line and its length, of the text in the buffer, and of the other lines.
 pub mod Decimals
+pub mod LastDigits
+pub mod FourDigits
 pub mod Texts
 pub mod Lines
 pub mod RowInBuffer

@@ -46,6 +46,23 @@ pub copied : (l t b : List ℕ) (i : ℕ) → i < length t → length t ≤ leng
 copied l t b i h k f =
     rw (add-one i, take-suc t i 0 h) (rw (← add-one i) (byte-more l (take i t) b i (getD t i 0) (omega (arith, f .0)) f))
 
+-- ---- bytes stored one after the other
+
+module _ (l : List ℕ) (at : ℕ) where
+  byte-at : (a : ℕ) → at < length l → set l at a ≡ placed l at (a ∷ [])
+  byte-at a h =
+      let none : at + length {A = ℕ} [] ≡ at = omega arith in
+      ap (λ (m : List ℕ). set m at a) (sym (take-append-drop at l)) ∙ ap (λ (k : ℕ). set (placed l at []) k a) (sym none) ∙ byte-after l at (omega arith) [] a (omega arith)
+
+  pub two-bytes : (a b : ℕ) → at + 2 ≤ length l → set (set l at a) (at + 1) b ≡ placed l at (a ∷ b ∷ [])
+  two-bytes a b h = ap (λ (m : List ℕ). set m (at + 1) b) (byte-at a (omega arith)) ∙ byte-after l at (omega arith) (a ∷ []) b (omega arith)
+
+  pub four-bytes : (a b c d : ℕ) → at + 4 ≤ length l → set (set (set (set l at a) (at + 1) b) (at + 2) c) (at + 3) d ≡ placed l at (a ∷ b ∷ c ∷ d ∷ [])
+  four-bytes a b c d h =
+      ap (λ (m : List ℕ). set (set m (at + 2) c) (at + 3) d) (two-bytes a b (omega arith))
+      ∙ ap (λ (m : List ℕ). set m (at + 3) d) (byte-after l at (omega arith) (a ∷ b ∷ []) c (omega arith))
+      ∙ byte-after l at (omega arith) (a ∷ b ∷ c ∷ []) d (omega arith)
+
 -- ---- a text from a place of the buffer on
 
 -- nothing is written yet
@@ -57,6 +74,13 @@ from-here l at h =
 -- the bytes before it and it stand at the front
 pub stands : (l t b : List ℕ) (at end : ℕ) → at ≤ length l → Front l (take at l ++ t) end b → (end ≡ at + length t) × (b ≡ placed l at t)
 stands l t b at end h f = (f .0 ∙ length-front l at h t, f .1 ∙ sym (placed-front l at h t))
+
+-- one text after another
+pub placed-on : (l t u : List ℕ) (at k : ℕ) → at + length t ≤ length l → k ≡ at + length t → placed (placed l at t) k u ≡ placed l at (t ++ u)
+placed-on l t u at k h e =
+    let f : Front l (take at l ++ t) k (placed l at t) = (e ∙ sym (length-front l at (omega arith) t), placed-front l at (omega arith) t) in
+    let g = goes-on l (take at l ++ t) u (placed l at t) (placed (placed l at t) k u) k (k + length u) f refl refl in
+    stands l (t ++ u) (placed (placed l at t) k u) at (k + length u) (omega arith) (rw (append-assoc (take at l) t u) at g) .1
 
 -- ---- the tail of a buffer that was lent and has come back
 

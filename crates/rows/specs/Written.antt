@@ -1,5 +1,5 @@
 -- Document 01, "a second answers the row's length, LF counted, and bytes past the row stay"; and so with each other line that the run program prints.
-use Prim.Native.Nat.{ℕ}
+use Prim.Native.Nat.{ℕ, zero, suc, _+_, _/_, _%_}
 use mathlib.Core.List.{List, [], _∷_, _++_}
 use mathlib.Core.Path.{_≡_}
 use lib.ListN.{length, take, drop}
@@ -7,7 +7,7 @@ use lib.Dec.{leb}
 use Rattle.rules.specs.declared.answers.Outcome.{Outcome}
 use Rattle.rules.specs.declared.run.Row.{Row}
 use Rattle.rules.specs.Answers.{Answer, accepted, refused, need, _>>_, outcomeOf}
-use Rattle.rules.specs.Bytes.{comma, decimal}
+use Rattle.rules.specs.Bytes.{comma, digit0, decimal}
 use Rattle.rules.specs.Row.{rowText}
 
 -- the text's bytes, where the buffer has room for any line
@@ -39,6 +39,11 @@ RowPut row = TextPut (rowText row)
 -- the text stands at the buffer's front, its length is told, and the lent bytes past it stay
 abbrev pub Front : List ℕ → List ℕ → ℕ → List ℕ → Type 0
 Front lent text told left = (told ≡ length text) × (left ≡ text ++ drop (length text) lent)
+
+-- the last `width` digits of a number, with zeros in front where it has fewer
+unfoldable pub lastDigits : ℕ → ℕ → List ℕ
+lastDigits zero n = []
+lastDigits (suc width) n = lastDigits width (n / 10) ++ ((digit0 + n % 10) ∷ [])
 
 -- a number and the byte after it
 unfoldable pub ended : ℕ → ℕ → List ℕ

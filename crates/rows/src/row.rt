@@ -6,6 +6,7 @@ ghost use Rattle.rules.specs.Bytes.{commaLine};
 ghost use Rattle.rows.specs.Written.{Front, RowPut};
 use crate::text::COMMA;
 use crate::text::LF;
+use crate::text::put_long_number;
 use crate::text::put_number;
 use rules::answers::Outcome;
 use rules::answers::Refusal;
@@ -20,10 +21,10 @@ fn put_line(columns: [u32; 12], store: u64, buffer: &mut [u8]) -> usize
     let mut at: usize = 0;
     let mut i: usize = 0;
     while i < 12 {
-        at = put_number(columns[i] as u64, COMMA, at, buffer);
+        at = put_number(columns[i], COMMA, at, buffer);
         i += 1;
     }
-    put_number(store, LF, at, buffer)
+    put_long_number(store, LF, at, buffer)
 }
 
 // A row at the front of a lent buffer.

@@ -5,6 +5,8 @@ ghost use lib.ListN.{length};
 ghost use Rattle.rules.specs.Bytes.{decimal, commaLine};
 ghost use Rattle.rows.specs.Written.{Front, ended, placed};
 use crate::decimal::put_decimal;
+use crate::decimal::put_digit;
+use crate::decimal::put_long_decimal;
 
 pub(crate) const COMMA: u8 = 44;
 
@@ -23,13 +25,27 @@ pub(crate) fn put_text(text: &[u8], buffer: &mut [u8]) -> usize
     i
 }
 
-// A number from `at` on and the byte after it: where the line goes on.
-pub(crate) fn put_number(number: u64, after: u8, at: usize, buffer: &mut [u8]) -> usize
+// A number from `at` on and the byte after it: where the line goes on. Most numbers of a row have one digit.
+pub(crate) fn put_number(number: u32, after: u8, at: usize, buffer: &mut [u8]) -> usize
     requires { ⌜ at + length (decimal number) < length (now buffer) ⌝ }
     ensures { λ r. ⌜ (r ≡ at + length (ended number after)) × (now (buffer .exit) ≡ placed (now (buffer .entry)) at (ended number after)) ⌝ }
 {
-    let digits = put_decimal(number, &mut buffer[at..]);
-    let end = at + digits;
+    if number < 10 {
+        let end = at + put_digit(number, &mut buffer[at..]);
+        buffer[end] = after;
+        return end + 1;
+    }
+    let end = at + put_decimal(number, &mut buffer[at..]);
+    buffer[end] = after;
+    end + 1
+}
+
+// The same for a number of 64 bits.
+pub(crate) fn put_long_number(number: u64, after: u8, at: usize, buffer: &mut [u8]) -> usize
+    requires { ⌜ at + length (decimal number) < length (now buffer) ⌝ }
+    ensures { λ r. ⌜ (r ≡ at + length (ended number after)) × (now (buffer .exit) ≡ placed (now (buffer .entry)) at (ended number after)) ⌝ }
+{
+    let end = at + put_long_decimal(number, &mut buffer[at..]);
     buffer[end] = after;
     end + 1
 }
@@ -43,8 +59,8 @@ pub(crate) fn put_numbers(numbers: &[u64], at: usize, buffer: &mut [u8]) -> usiz
     let mut end = at;
     let mut i: usize = 0;
     while i < last {
-        end = put_number(numbers[i], COMMA, end, buffer);
+        end = put_long_number(numbers[i], COMMA, end, buffer);
         i += 1;
     }
-    put_number(numbers[last], LF, end, buffer)
+    put_long_number(numbers[last], LF, end, buffer)
 }

@@ -34,9 +34,6 @@ mul-put-number c = search needs
 array-read-put-number : tie.Need-array-read-put-number Inv-loop μ-loop
 array-read-put-number c = search needs
 
-cast-put-number : tie.Need-cast-put-number Inv-loop μ-loop
-cast-put-number c = search needs
-
 put-number-requires : tie.Need-put-number-requires Inv-loop μ-loop
 put-number-requires c κs =
     let a = c .before .before .before .before .args in
@@ -66,8 +63,8 @@ loop-again c =
       rw (commaed-step (a .t1) (l .i) (omega arith)) f,
     )
 
-put-number-requires-2 : tie.Need-put-number-requires-2 Inv-loop μ-loop
-put-number-requires-2 c κs = omega (arith, digits-64 (c .before .before .before .before .args .store) (omega arith))
+put-long-number-requires : tie.Need-put-long-number-requires Inv-loop μ-loop
+put-long-number-requires c κs = omega (arith, digits-64 (c .before .before .before .before .args .store) (omega arith))
 
 same-length : tie.Need-same-length Inv-loop μ-loop
 same-length c = search needs
@@ -76,7 +73,7 @@ returns : tie.Need-returns Inv-loop μ-loop
 returns c =
     let l = c .before .before .before .before .before .loop in
     let a = c .before .before .before .before .before .before .before .args in
-    let p = c .before .before .put-number2 in
+    let p = c .before .before .put-long-number in
     let e : l .i ≡ 12 = omega arith in
     let whole : take (l .i) (a .t1) ≡ a .t1 = rw e (take-all 12 (a .t1) (omega arith)) in
     rw (line-ends (a .t1) (a .store))
@@ -91,11 +88,10 @@ put-line-spec =
     loop-holds
     mul-put-number
     array-read-put-number
-    cast-put-number
     put-number-requires
     add-i
     loop-less
     loop-again
-    put-number-requires-2
+    put-long-number-requires
     same-length
     returns)

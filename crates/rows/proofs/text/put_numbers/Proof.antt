@@ -37,14 +37,14 @@ loop-holds c =
     let p = c .before .before .pre in
     (omega arith, omega (arith, p .0), omega arith, p .1, refl, from-here (now (a .buffer)) (a .at) (omega (arith, p .1)))
 
-mul-put-number : tie.Need-mul-put-number Inv-loop μ-loop
-mul-put-number c = search needs
+mul-put-long-number : tie.Need-mul-put-long-number Inv-loop μ-loop
+mul-put-long-number c = search needs
 
-shared-slice-read-put-number : tie.Need-shared-slice-read-put-number Inv-loop μ-loop
-shared-slice-read-put-number c = search needs
+shared-slice-read-put-long-number : tie.Need-shared-slice-read-put-long-number Inv-loop μ-loop
+shared-slice-read-put-long-number c = search needs
 
-put-number-requires : tie.Need-put-number-requires Inv-loop μ-loop
-put-number-requires c κs =
+put-long-number-requires : tie.Need-put-long-number-requires Inv-loop μ-loop
+put-long-number-requires c κs =
     let a = c .before .before .before .before .before .before .args in
     let x : ℕ = getD (now (a .numbers)) (c .before .before .before .loop .i) 0 in
     let small : x < 2 ^ 64 = omega (arith, c .before .shared-slice-known2 .given (c .before .before .before .loop .i)) in
@@ -60,7 +60,7 @@ loop-again : tie.Need-loop-again Inv-loop μ-loop
 loop-again c =
     let l = c .before .before .before .before .before .before .loop in
     let a = c .before .before .before .before .before .before .before .before .before .args in
-    let p = c .before .before .put-number in
+    let p = c .before .before .put-long-number in
     let x : ℕ = getD (now (a .numbers)) (l .i) 0 in
     let small : x < 2 ^ 64 = omega (arith, c .before .before .before .before .shared-slice-known2 .given (c .before .before .before .before .before .before .loop .i)) in
     let f = goes-on (now (a .buffer)) (take (a .at) (now (a .buffer)) ++ commaed (take (l .i) (now (a .numbers)))) (ended x comma) (l .buffer) _ (l .end) _ (l .inv .5) (p .ensures .0) (p .ensures .1) in (
@@ -72,14 +72,14 @@ loop-again c =
       rw (commaed-on (take (a .at) (now (a .buffer))) (now (a .numbers)) (l .i) (omega arith)) at f,
     )
 
-mul-put-number-2 : tie.Need-mul-put-number-2 Inv-loop μ-loop
-mul-put-number-2 c = search needs
+mul-put-long-number-2 : tie.Need-mul-put-long-number-2 Inv-loop μ-loop
+mul-put-long-number-2 c = search needs
 
-shared-slice-read-put-number-2 : tie.Need-shared-slice-read-put-number-2 Inv-loop μ-loop
-shared-slice-read-put-number-2 c = search needs
+shared-slice-read-put-long-number-2 : tie.Need-shared-slice-read-put-long-number-2 Inv-loop μ-loop
+shared-slice-read-put-long-number-2 c = search needs
 
-put-number-requires-2 : tie.Need-put-number-requires-2 Inv-loop μ-loop
-put-number-requires-2 c κs =
+put-long-number-requires-2 : tie.Need-put-long-number-requires-2 Inv-loop μ-loop
+put-long-number-requires-2 c κs =
     let a = c .before .before .before .before .before .before .args in
     let x : ℕ = getD (now (a .numbers)) (length (now (a .numbers)) - 1) 0 in
     let small : x < 2 ^ 64 = omega (arith, c .before .shared-slice-known3 .given (length (now (a .numbers)) - 1)) in
@@ -92,7 +92,7 @@ returns : tie.Need-returns Inv-loop μ-loop
 returns c =
     let l = c .before .before .before .before .before .before .loop in
     let a = c .before .before .before .before .before .before .before .before .before .args in
-    let p = c .before .before .put-number2 in
+    let p = c .before .before .put-long-number2 in
     let xs = now (a .numbers) in
     let lent = now (a .buffer) in
     let last : l .i ≡ length xs - 1 = omega arith in
@@ -107,14 +107,14 @@ put-numbers-spec =
     μ-loop
     sub-last
     loop-holds
-    mul-put-number
-    shared-slice-read-put-number
-    put-number-requires
+    mul-put-long-number
+    shared-slice-read-put-long-number
+    put-long-number-requires
     add-i
     loop-less
     loop-again
-    mul-put-number-2
-    shared-slice-read-put-number-2
-    put-number-requires-2
+    mul-put-long-number-2
+    shared-slice-read-put-long-number-2
+    put-long-number-requires-2
     same-length
     returns)

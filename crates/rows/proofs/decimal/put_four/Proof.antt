@@ -1,0 +1,106 @@
+-- `put_four` meets its contract: the four bytes of the word are the four digits. Assumes nothing.
+use mathlib.Core.Path.{ap, _∙_}
+use native.Mathlib.Omega.{arith}
+use lib.ListN.{length-set}
+use denote.Ref.{now}
+use borrow.Author.Needs.{needs}
+use Rattle.rows.specs.Written.{placed}
+use Rattle.rows.proofs.Texts.{four-bytes}
+use Rattle.rows.proofs.FourDigits.{word-digits}
+use Rattle.rows.proofs.decimal.put_four.Statement.{statement}
+use Rattle.rows.proofs.decimal.put_four.Tie as tie
+
+mul-pairs : tie.Need-mul-pairs
+mul-pairs c = search needs
+
+add-pairs : tie.Need-add-pairs
+add-pairs c = search needs
+
+mul-tenths : tie.Need-mul-tenths
+mul-tenths c = search needs
+
+mul-tens : tie.Need-mul-tens
+mul-tens c = search needs
+
+add-tens : tie.Need-add-tens
+add-tens c = search needs
+
+mul-word : tie.Need-mul-word
+mul-word c = search needs
+
+add-word : tie.Need-add-word
+add-word c = search needs
+
+mul-word-2 : tie.Need-mul-word-2
+mul-word-2 c = search needs
+
+sub-word : tie.Need-sub-word
+sub-word c = search needs
+
+cast-tail : tie.Need-cast-tail
+cast-tail c = search needs
+
+slice-write-tail : tie.Need-slice-write-tail
+slice-write-tail c = search needs
+
+cast-tail-2 : tie.Need-cast-tail-2
+cast-tail-2 c = search needs
+
+add-tail : tie.Need-add-tail
+add-tail c = search needs
+
+slice-write-tail-2 : tie.Need-slice-write-tail-2
+slice-write-tail-2 c = simp length-set (omega arith)
+
+cast-tail-3 : tie.Need-cast-tail-3
+cast-tail-3 c = search needs
+
+add-tail-2 : tie.Need-add-tail-2
+add-tail-2 c = search needs
+
+slice-write-tail-3 : tie.Need-slice-write-tail-3
+slice-write-tail-3 c = simp length-set (omega arith)
+
+cast-tail-4 : tie.Need-cast-tail-4
+cast-tail-4 c = search needs
+
+add-tail-3 : tie.Need-add-tail-3
+add-tail-3 c = search needs
+
+slice-write-tail-4 : tie.Need-slice-write-tail-4
+slice-write-tail-4 c = simp length-set (omega arith)
+
+same-length : tie.Need-same-length
+same-length c = search needs
+
+returns : tie.Need-returns
+returns c =
+    let a = c .args in
+    four-bytes (now (a .tail)) (a .at) _ _ _ _ (c .pre .1) ∙ ap (placed (now (a .tail)) (a .at)) (word-digits (a .number) (c .pre .0))
+
+pub put-four-spec : {M : Type 1} → statement M
+put-four-spec =
+    tie.close
+    (tie.spec
+    mul-pairs
+    add-pairs
+    mul-tenths
+    mul-tens
+    add-tens
+    mul-word
+    add-word
+    mul-word-2
+    sub-word
+    cast-tail
+    slice-write-tail
+    cast-tail-2
+    add-tail
+    slice-write-tail-2
+    cast-tail-3
+    add-tail-2
+    slice-write-tail-3
+    cast-tail-4
+    add-tail-3
+    slice-write-tail-4
+    same-length
+    returns)
