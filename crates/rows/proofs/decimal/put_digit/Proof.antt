@@ -7,10 +7,10 @@ use Rattle.rows.proofs.decimal.put_digit.Statement.{statement}
 use Rattle.rows.proofs.decimal.put_digit.Tie as tie
 
 add-tail : tie.Need-add-tail
-add-tail c = search needs
+add-tail c = omega arith
 
 cast-tail : tie.Need-cast-tail
-cast-tail c = search needs
+cast-tail c = omega arith
 
 slice-write-tail : tie.Need-slice-write-tail
 slice-write-tail c = omega (arith, put-one (c .args .number) (now (c .args .tail)) (c .pre .0) (c .pre .1) .0, c .pre .1)

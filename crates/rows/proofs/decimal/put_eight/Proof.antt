@@ -15,7 +15,7 @@ put-four-requires : tie.Need-put-four-requires
 put-four-requires c κs = search needs
 
 add-put-four : tie.Need-add-put-four
-add-put-four c = search needs
+add-put-four c = omega arith
 
 put-four-requires-2 : tie.Need-put-four-requires-2
 put-four-requires-2 c κs = search needs

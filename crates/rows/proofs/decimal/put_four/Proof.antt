@@ -11,61 +11,61 @@ use Rattle.rows.proofs.decimal.put_four.Statement.{statement}
 use Rattle.rows.proofs.decimal.put_four.Tie as tie
 
 mul-pairs : tie.Need-mul-pairs
-mul-pairs c = search needs
+mul-pairs c = omega arith
 
 add-pairs : tie.Need-add-pairs
-add-pairs c = search needs
+add-pairs c = omega arith
 
 mul-tenths : tie.Need-mul-tenths
-mul-tenths c = search needs
+mul-tenths c = omega arith
 
 mul-tens : tie.Need-mul-tens
-mul-tens c = search needs
+mul-tens c = omega arith
 
 add-tens : tie.Need-add-tens
-add-tens c = search needs
+add-tens c = omega arith
 
 mul-word : tie.Need-mul-word
-mul-word c = search needs
+mul-word c = omega arith
 
 add-word : tie.Need-add-word
-add-word c = search needs
+add-word c = omega arith
 
 mul-word-2 : tie.Need-mul-word-2
-mul-word-2 c = search needs
+mul-word-2 c = omega arith
 
 sub-word : tie.Need-sub-word
-sub-word c = search needs
+sub-word c = omega arith
 
 cast-tail : tie.Need-cast-tail
-cast-tail c = search needs
+cast-tail c = omega arith
 
 slice-write-tail : tie.Need-slice-write-tail
-slice-write-tail c = search needs
+slice-write-tail c = omega arith
 
 cast-tail-2 : tie.Need-cast-tail-2
-cast-tail-2 c = search needs
+cast-tail-2 c = omega arith
 
 add-tail : tie.Need-add-tail
-add-tail c = search needs
+add-tail c = omega arith
 
 slice-write-tail-2 : tie.Need-slice-write-tail-2
 slice-write-tail-2 c = simp length-set (omega arith)
 
 cast-tail-3 : tie.Need-cast-tail-3
-cast-tail-3 c = search needs
+cast-tail-3 c = omega arith
 
 add-tail-2 : tie.Need-add-tail-2
-add-tail-2 c = search needs
+add-tail-2 c = omega arith
 
 slice-write-tail-3 : tie.Need-slice-write-tail-3
 slice-write-tail-3 c = simp length-set (omega arith)
 
 cast-tail-4 : tie.Need-cast-tail-4
-cast-tail-4 c = search needs
+cast-tail-4 c = omega arith
 
 add-tail-3 : tie.Need-add-tail-3
-add-tail-3 c = search needs
+add-tail-3 c = omega arith
 
 slice-write-tail-4 : tie.Need-slice-write-tail-4
 slice-write-tail-4 c = simp length-set (omega arith)

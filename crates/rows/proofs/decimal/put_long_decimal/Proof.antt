@@ -9,7 +9,7 @@ use Rattle.rows.proofs.decimal.put_long_decimal.Statement.{statement}
 use Rattle.rows.proofs.decimal.put_long_decimal.Tie as tie
 
 cast-put-decimal : tie.Need-cast-put-decimal
-cast-put-decimal c = search needs
+cast-put-decimal c = omega arith
 
 put-decimal-requires : tie.Need-put-decimal-requires
 put-decimal-requires c κs = search needs
@@ -21,10 +21,10 @@ returns : tie.Need-returns
 returns c = search needs
 
 cast-low : tie.Need-cast-low
-cast-low c = search needs
+cast-low c = omega arith
 
 cast-put-decimal-2 : tie.Need-cast-put-decimal-2
-cast-put-decimal-2 c = search needs
+cast-put-decimal-2 c = omega arith
 
 put-decimal-requires-2 : tie.Need-put-decimal-requires-2
 put-decimal-requires-2 c κs =
@@ -51,7 +51,7 @@ returns-2 c =
     joined 8 (a .number) (now (a .tail)) _ _ (front .result) _ (c .before .before .before .before .before .before .before .before .before .if1 .left) refl (front .ensures) (c .before .before .put-eight .ensures)
 
 cast-put-decimal-3 : tie.Need-cast-put-decimal-3
-cast-put-decimal-3 c = search needs
+cast-put-decimal-3 c = omega arith
 
 put-decimal-requires-3 : tie.Need-put-decimal-requires-3
 put-decimal-requires-3 c κs =
@@ -61,7 +61,7 @@ put-decimal-requires-3 c κs =
     omega (arith, c .before .before .before .before .pre, both, above)
 
 cast-put-eight : tie.Need-cast-put-eight
-cast-put-eight c = search needs
+cast-put-eight c = omega arith
 
 put-eight-requires-2 : tie.Need-put-eight-requires-2
 put-eight-requires-2 c κs =

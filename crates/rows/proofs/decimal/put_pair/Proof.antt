@@ -11,22 +11,22 @@ use Rattle.rows.proofs.decimal.put_pair.Statement.{statement}
 use Rattle.rows.proofs.decimal.put_pair.Tie as tie
 
 add-tail : tie.Need-add-tail
-add-tail c = search needs
+add-tail c = omega arith
 
 cast-tail : tie.Need-cast-tail
-cast-tail c = search needs
+cast-tail c = omega arith
 
 slice-write-tail : tie.Need-slice-write-tail
-slice-write-tail c = search needs
+slice-write-tail c = omega arith
 
 add-tail-2 : tie.Need-add-tail-2
-add-tail-2 c = search needs
+add-tail-2 c = omega arith
 
 cast-tail-2 : tie.Need-cast-tail-2
-cast-tail-2 c = search needs
+cast-tail-2 c = omega arith
 
 add-tail-3 : tie.Need-add-tail-3
-add-tail-3 c = search needs
+add-tail-3 c = omega arith
 
 slice-write-tail-2 : tie.Need-slice-write-tail-2
 slice-write-tail-2 c = simp length-set (omega arith)

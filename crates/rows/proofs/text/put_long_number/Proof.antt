@@ -10,7 +10,7 @@ use Rattle.rows.proofs.text.put_long_number.Statement.{statement}
 use Rattle.rows.proofs.text.put_long_number.Tie as tie
 
 sub-put-long-decimal : tie.Need-sub-put-long-decimal
-sub-put-long-decimal c = search needs
+sub-put-long-decimal c = omega arith
 
 part-put-long-decimal-start : tie.Need-part-put-long-decimal-start
 part-put-long-decimal-start c = search needs
@@ -22,13 +22,13 @@ put-long-decimal-requires : tie.Need-put-long-decimal-requires
 put-long-decimal-requires c κs = search needs
 
 add-end : tie.Need-add-end
-add-end c = search needs
+add-end c = omega arith
 
 slice-write-buffer : tie.Need-slice-write-buffer
-slice-write-buffer c = search needs
+slice-write-buffer c = omega arith
 
 add-result : tie.Need-add-result
-add-result c = search needs
+add-result c = omega arith
 
 same-length : tie.Need-same-length
 same-length c = search needs

@@ -10,7 +10,7 @@ use Rattle.rows.proofs.text.put_number.Statement.{statement}
 use Rattle.rows.proofs.text.put_number.Tie as tie
 
 sub-put-digit : tie.Need-sub-put-digit
-sub-put-digit c = search needs
+sub-put-digit c = omega arith
 
 part-put-digit-start : tie.Need-part-put-digit-start
 part-put-digit-start c = search needs
@@ -22,13 +22,13 @@ put-digit-requires : tie.Need-put-digit-requires
 put-digit-requires c κs = search needs
 
 add-end : tie.Need-add-end
-add-end c = search needs
+add-end c = omega arith
 
 slice-write-buffer : tie.Need-slice-write-buffer
-slice-write-buffer c = search needs
+slice-write-buffer c = omega arith
 
 add-result : tie.Need-add-result
-add-result c = search needs
+add-result c = omega arith
 
 same-length : tie.Need-same-length
 same-length c = search needs
@@ -43,7 +43,7 @@ returns c =
     )
 
 sub-put-decimal : tie.Need-sub-put-decimal
-sub-put-decimal c = search needs
+sub-put-decimal c = omega arith
 
 part-put-decimal-start : tie.Need-part-put-decimal-start
 part-put-decimal-start c = search needs
@@ -55,13 +55,13 @@ put-decimal-requires : tie.Need-put-decimal-requires
 put-decimal-requires c κs = search needs
 
 add-end-2 : tie.Need-add-end-2
-add-end-2 c = search needs
+add-end-2 c = omega arith
 
 slice-write-buffer-2 : tie.Need-slice-write-buffer-2
-slice-write-buffer-2 c = search needs
+slice-write-buffer-2 c = omega arith
 
 add-result-2 : tie.Need-add-result-2
-add-result-2 c = search needs
+add-result-2 c = omega arith
 
 same-length-2 : tie.Need-same-length-2
 same-length-2 c = search needs
