@@ -3,6 +3,8 @@ use Prim.Native.Nat.{ℕ, _+_, _-_, _*_, _/_, _%_, _<_}
 use mathlib.Core.Path.{_≡_, refl, ap, _∙_}
 use mathlib.Core.List.{List, [], _∷_}
 use native.Mathlib.Omega.{arith}
+use mir.Syntax.{w8}
+use mir.Val.{Fits}
 use Rattle.rows.specs.Written.{lastDigits}
 
 -- the two pairs, each in its half
@@ -68,3 +70,8 @@ module _ (n : ℕ) (h : n < 10000) where
       let b : n / 100 % 10 ≡ n / 10 / 10 % 10 = omega arith in
       let c : n % 100 / 10 ≡ n / 10 % 10 = omega arith in
       rw word-is (unpacks (n / 100 / 10) (n / 100 % 10) (n % 100 / 10) (n % 10) (omega arith) (omega arith) (omega arith) (omega arith) ∙ rw (a, b, c))
+
+-- ---- that nothing is lost on the way
+
+pub byte-fits : (x : ℕ) → Fits w8 (x % 256)
+byte-fits x = record { fits = omega arith }

@@ -6,7 +6,7 @@ use denote.Ref.{now}
 use borrow.Author.Needs.{needs}
 use Rattle.rows.specs.Written.{placed}
 use Rattle.rows.proofs.Texts.{four-bytes}
-use Rattle.rows.proofs.FourDigits.{word-digits}
+use Rattle.rows.proofs.FourDigits.{byte-fits, word-digits}
 use Rattle.rows.proofs.decimal.put_four.Statement.{statement}
 use Rattle.rows.proofs.decimal.put_four.Tie as tie
 
@@ -38,13 +38,13 @@ sub-word : tie.Need-sub-word
 sub-word c = omega arith
 
 cast-tail : tie.Need-cast-tail
-cast-tail c = omega arith
+cast-tail c = byte-fits _
 
 slice-write-tail : tie.Need-slice-write-tail
 slice-write-tail c = omega arith
 
 cast-tail-2 : tie.Need-cast-tail-2
-cast-tail-2 c = omega arith
+cast-tail-2 c = byte-fits _
 
 add-tail : tie.Need-add-tail
 add-tail c = omega arith
@@ -53,7 +53,7 @@ slice-write-tail-2 : tie.Need-slice-write-tail-2
 slice-write-tail-2 c = simp length-set (omega arith)
 
 cast-tail-3 : tie.Need-cast-tail-3
-cast-tail-3 c = omega arith
+cast-tail-3 c = byte-fits _
 
 add-tail-2 : tie.Need-add-tail-2
 add-tail-2 c = omega arith
