@@ -35,7 +35,8 @@ returns-2 c =
     let word = c .before .before .before .before .before .before .before .put-text in
     let p = c .before .before .put-numbers in
     let lent = now (a .buffer) in
-    text-written (refusalLine (a .number) (a .place)) lent _ _ (omega (arith, c .before .before .before .before .before .before .before .before .before .before .if1 .left)) (goes-on lent (bytes "refused,") (commaLine (a .number ∷ a .place ∷ [])) _ _ (word .result) _ (word .ensures) (p .ensures .0) (p .ensures .1))
+    let line = goes-on lent (bytes "refused,") (commaLine (a .number ∷ a .place ∷ [])) _ _ (word .result) _ (word .ensures) (p .ensures .0) (p .ensures .1) in
+    text-written (refusalLine (a .number) (a .place)) lent _ _ (omega (arith, c .before .before .before .before .before .before .before .before .before .before .if1 .left)) line
 
 pub put-refusal-spec : {M : Type 1} → statement M
 put-refusal-spec =
