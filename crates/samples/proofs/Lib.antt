@@ -6,3 +6,5 @@ pub mod PlaceBound
 pub mod CheckLaws
 pub mod ChunkLaws
 pub mod Chunks
+pub mod HeldLaws
+pub mod FillLaws

@@ -88,18 +88,25 @@ pub fn finish(check: SampleCheck) -> Checked
     }
 }
 
-// Whether a line was refused, so that the rest of the file needs no reading.
-pub fn is_refused(check: SampleCheck) -> bool
-    ensures { λ r. ⌜ r ≡ isRefused (check .reader .stage) ⌝ }
+// Whether the lines so far came to a refusal.
+pub(crate) fn line_refused(stage: Stage) -> bool
+    ensures { λ r. ⌜ r ≡ isRefused stage ⌝ }
 {
-    let reader = check.reader;
-    let stage = reader.stage;
     match stage {
         Stage::Heading => false,
         Stage::FirstRow(_) => false,
         Stage::LaterRows(_, _, _) => false,
         Stage::Refused(_) => true,
     }
+}
+
+// Whether a line was refused, so that the rest of the file needs no reading.
+pub fn is_refused(check: SampleCheck) -> bool
+    ensures { λ r. ⌜ r ≡ isRefused (check .reader .stage) ⌝ }
+{
+    let reader = check.reader;
+    let stage = reader.stage;
+    line_refused(stage)
 }
 
 // A file that is there as a whole.
