@@ -33,7 +33,7 @@ use Rattle.samples.proofs.LineLaws.{drop-least}
 
 -- ---- rows that are held
 
-not-accepted : {A B : Type 0} (number place : ℕ) (b : A) → _≡_ {A = Answer A} (refused number place) (accepted b) → B
+pub not-accepted : {A B : Type 0} (number place : ℕ) (b : A) → _≡_ {A = Answer A} (refused number place) (accepted b) → B
 not-accepted number place b e = absurd (let z : _≡_ {A = ℕ} 0 1 = cc in omega arith)
 
 -- a row that has come into force is held from then on
@@ -117,7 +117,7 @@ module _ (t : ℕ) (a : Answer (List Sample)) where
       go false e = stays now (Ahead.LastTwo x y) (x ∷ y ∷ []) false refl (λ u. before-next now x (y ∷ []) t e)
 
 -- the rows after the one that is known
-after-next : (x : Sample) (a : Answer (List Sample)) (rows : List Sample) → rowFirst (Found.Row x) a ≡ accepted rows → (others : List Sample) × (a ≡ accepted others) × (x ∷ others ≡ rows)
+pub after-next : (x : Sample) (a : Answer (List Sample)) (rows : List Sample) → rowFirst (Found.Row x) a ≡ accepted rows → (others : List Sample) × (a ≡ accepted others) × (x ∷ others ≡ rows)
 after-next x (accepted others) rows e = (others, refl, same-value (x ∷ others) rows e)
 after-next x (refused number place) rows e = not-accepted number place rows e
 

@@ -113,9 +113,9 @@ fn comes_in(held: Sample, ahead: Ahead, second: usize) -> InForce
                 unread: false,
             }
         }
-        Ahead::LastTwo(row, last) => {
-            if wide(row.at) <= second {
-                return last_comes_in(row, last, second);
+        Ahead::LastTwo(next, last) => {
+            if wide(next.at) <= second {
+                return last_comes_in(next, last, second);
             }
             InForce {
                 now: held,

@@ -1,3 +1,4 @@
+-- `samples::inputs::ahead_at_end` meets its contract. Assumes nothing.
 use borrow.Author.Needs.{needs}
 use borrow.Author.Needs.{needs}
 use Rattle.samples.proofs.inputs.ahead_at_end.Statement.{statement}

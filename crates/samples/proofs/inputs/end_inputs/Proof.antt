@@ -1,3 +1,4 @@
+-- `samples::inputs::end_inputs` meets its contract. Assumes nothing.
 use borrow.Author.Needs.{needs}
 use Rattle.samples.proofs.HeldLaws.{ended-right}
 use borrow.Author.Needs.{needs}

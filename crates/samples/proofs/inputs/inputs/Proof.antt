@@ -1,3 +1,4 @@
+-- `samples::inputs::inputs` meets its contract. Assumes nothing.
 use borrow.Author.Needs.{needs}
 use mathlib.Core.Path.{refl}
 use Rattle.samples.specs.Held.{sourceRows}

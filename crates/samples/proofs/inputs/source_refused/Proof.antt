@@ -1,3 +1,4 @@
+-- `samples::inputs::source_refused` meets its contract. Assumes nothing.
 use borrow.Author.Needs.{needs}
 use borrow.Author.Needs.{needs}
 use Rattle.samples.specs.Held.{sourceRefused}
