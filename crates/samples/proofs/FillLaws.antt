@@ -13,10 +13,14 @@ use Rattle.rules.specs.Answers.{Answer, accepted}
 use Rattle.rules.specs.SampleFile.{holding}
 use Rattle.rules.specs.Run.{inputsOf}
 use Rattle.rules.proofs.Tests.{never}
+use Rattle.samples.specs.declared.reader.SampleReader.{SampleReader}
+use Rattle.samples.specs.declared.inputs.Ahead.{Ahead}
+use Rattle.samples.specs.declared.inputs.Begun.{Begun}
 use Rattle.samples.specs.declared.inputs.InputSource.{InputSource}
 use Rattle.samples.specs.declared.inputs.Filled.{Filled}
 use Rattle.samples.specs.declared.inputs.Reached.{Reached}
-use Rattle.samples.specs.Held.{sourceRows, isEnded, sourceEnded, sourceRefused, heldFrom, inputsIn, Onward, AtSecond, ReachedRight, HeldOn, placesOf, KeptFrom, FilledRight}
+use Rattle.samples.specs.Streamed.{yetToCome}
+use Rattle.samples.specs.Held.{rowsAhead, readerAt, sourceRows, isEnded, sourceEnded, sourceRefused, heldFrom, inputsIn, Onward, AtSecond, ReachedRight, HeldOn, placesOf, KeptFrom, FilledRight}
 use Rattle.samples.proofs.LineLaws.{drop-least}
 use Rattle.samples.proofs.HeldLaws.{held-next, held-none, onward-then, source-accepted}
 
@@ -45,6 +49,12 @@ kept-more i before l x k = record {
   size = length-set l i x ∙ k .size;
   rest = drop-set-lt (i + 1) l i x (omega arith) ∙ sym (drop-drop 1 i l) ∙ ap (drop 1) (k .rest) ∙ drop-drop 1 i before;
 }
+
+-- what is ahead and what a reader comes to are all that the rows to come depend on
+same-rows : (now : Sample) (ahead : Ahead) (m m′ : SampleReader) (rest rest′ : List ℕ) → yetToCome m rest ≡ yetToCome m′ rest′
+    → sourceRows (record { reader = m; now = now; ahead = ahead }) rest ≡ sourceRows (record { reader = m′; now = now; ahead = ahead }) rest′
+unfolding sourceRows
+same-rows now ahead m m′ rest rest′ e = ap (rowsAhead ahead) e
 
 -- ---- the loop
 
@@ -100,15 +110,16 @@ module _ (s : InputSource) (second : ℕ) (chunk : List ℕ) (at : ℕ) (loads�
       keptSheddables = g .keptSheddables;
     }
 
-    module _ (q : Reached) (right : ReachedRight (r .source .reader) (r .source .now) (r .source .ahead) (second + r .seconds) chunk (r .next) q) where
+    -- the reader at the line that has begun
+    module _ (b : Begun) (line : List ℕ) (at-line : r .source .reader ≡ readerAt b line) (q : Reached) (right : ReachedRight b line (r .source .now) (r .source .ahead) (second + r .seconds) chunk (r .next) q) where
       abbrev after : InputSource
-      after = record { reader = q .reader; now = q .now; ahead = q .ahead }
+      after = record { reader = readerAt (q .begun) line; now = q .now; ahead = q .ahead }
 
       -- the second that was reached, of the rows that were to come
       here : (rest : List ℕ) (rows : List Sample) (h : sourceRows s (drop at chunk ++ rest) ≡ accepted rows)
-          → AtSecond (r .source .now) (g .inputs rest rows h .others) (second + r .seconds) q (drop (q .next) chunk ++ rest)
+          → AtSecond (r .source .now) (g .inputs rest rows h .others) (second + r .seconds) q line (drop (q .next) chunk ++ rest)
       unfolding sourceRows
-      here rest rows h = right .rows rest (g .inputs rest rows h .others) (g .inputs rest rows h .comes)
+      here rest rows h = right .rows rest (g .inputs rest rows h .others) (rw at-line at (g .inputs rest rows h .comes))
 
       comes-on : (rest : List ℕ) (rows : List Sample) (h : sourceRows s (drop at chunk ++ rest) ≡ accepted rows) → sourceRows after (drop (q .next) chunk ++ rest) ≡ accepted (here rest rows h .others)
       unfolding sourceRows
@@ -124,21 +135,21 @@ module _ (s : InputSource) (second : ℕ) (chunk : List ℕ) (at : ℕ) (loads�
       further : min at (length chunk) ≤ q .next
       further = let o : min (r .next) (length chunk) ≤ q .next = right .onward in omega (arith, g .onward, g .within)
 
-      -- the chunk ends before the second is told
-      pub filled-short : q .told ≡ false → sourceRefused s ≡ false → r .seconds < places
-          → FilledRight s second chunk at loads₀ solars₀ sheddables₀ (record { source = after; next = q .next; seconds = r .seconds }) loads solars sheddables
-      filled-short u live h = record {
+      -- no further line ends in the chunk, so that its last bytes are kept
+      pub filled-short : (m : SampleReader) → ((rest : List ℕ) → yetToCome (readerAt (q .begun) line) (drop (q .next) chunk ++ rest) ≡ yetToCome m rest) → q .told ≡ false → sourceRefused s ≡ false → r .seconds < places
+          → FilledRight s second chunk at loads₀ solars₀ sheddables₀ (record { source = record { reader = m; now = q .now; ahead = q .ahead }; next = length chunk; seconds = r .seconds }) loads solars sheddables
+      filled-short m keeps u live h = record {
         inputs = λ rest rows a. record {
           others = here rest rows a .others;
-          comes = comes-on rest rows a;
+          comes = kept-on rest ∙ comes-on rest rows a;
           passed = g .inputs rest rows a .passed + here rest rows a .onward .passed;
           last = last-on rest rows a;
           told = λ n. g .inputs rest rows a .told n ∙ ap (λ (l : List Inputs). inputsIn (r .seconds) loads solars sheddables ++ l) (here rest rows a .onward .held n);
         };
-        within = right .within;
-        onward = further;
+        within = omega arith;
+        onward = omega arith;
         most = g .most;
-        short = λ k. right .exhausted u;
+        short = λ k. refl;
         all = λ e f. never (sym (right .wanted u) ∙ g .ended ∙ e);
         none = λ f. never (sym live ∙ f);
         ended = right .ended ∙ g .ended;
@@ -146,6 +157,9 @@ module _ (s : InputSource) (second : ℕ) (chunk : List ℕ) (at : ℕ) (loads�
         keptSolars = g .keptSolars;
         keptSheddables = g .keptSheddables;
       }
+        where
+          kept-on : (rest : List ℕ) → sourceRows (record { reader = m; now = q .now; ahead = q .ahead }) (drop (length chunk) chunk ++ rest) ≡ sourceRows after (drop (q .next) chunk ++ rest)
+          kept-on rest = rw (drop-length chunk) (same-rows (q .now) (q .ahead) m (readerAt (q .begun) line) rest (drop (q .next) chunk ++ rest) (sym (keeps rest)))
 
       -- one second more
       pub filling-more : q .told ≡ true → r .seconds < places

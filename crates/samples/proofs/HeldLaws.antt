@@ -19,16 +19,15 @@ use Rattle.rules.proofs.Tests.{never}
 use Rattle.rules.proofs.Checks.{same-value}
 use Rattle.samples.specs.declared.stage.Stage.{Stage}
 use Rattle.samples.specs.declared.stage.Found.{Found}
-use Rattle.samples.specs.declared.reader.SampleReader.{SampleReader}
-use Rattle.samples.specs.declared.reader.Pulled.{Pulled}
+use Rattle.samples.specs.declared.reader.NextRow.{NextRow}
 use Rattle.samples.specs.declared.reader.Ending.{Ending}
 use Rattle.samples.specs.declared.inputs.Ahead.{Ahead}
 use Rattle.samples.specs.declared.inputs.InputSource.{InputSource}
 use Rattle.samples.specs.declared.inputs.InForce.{InForce}
-use Rattle.samples.specs.declared.inputs.Reached.{Reached}
+use Rattle.samples.specs.declared.inputs.Begun.{Begun}
 use Rattle.samples.specs.ToCome.{toCome, rowFirst}
-use Rattle.samples.specs.Streamed.{yetToCome, linesAfter, begunIn, isRow, isRefused, PulledRight, endingOf}
-use Rattle.samples.specs.Held.{rowsAhead, sourceRows, isEnded, sourceEnded, refusedAhead, sourceRefused, heldFrom, Onward, lastComesIn, comesIn, AtSecond, ReachedRight, aheadAtEnd, EndedRight}
+use Rattle.samples.specs.Streamed.{yetToCome, linesAfter, begunIn, isRow, isRefused, NextRight, endingOf}
+use Rattle.samples.specs.Held.{rowsAhead, sourceRows, isEnded, sourceEnded, refusedAhead, sourceRefused, heldFrom, Onward, lastComesIn, comesIn, readerAt, AtSecond, ReachedRight, aheadAtEnd, EndedRight}
 use Rattle.samples.proofs.LineLaws.{drop-least}
 
 -- ---- rows that are held
@@ -187,18 +186,18 @@ comes-in-unread now (Ahead.Refused r) t h = never h
 
 -- ---- with rows of a chunk
 
-module _ (m : SampleReader) (now : Sample) (ahead : Ahead) (t : ℕ) (chunk : List ℕ) (at : ℕ) where
+module _ (b : Begun) (line : List ℕ) (now : Sample) (ahead : Ahead) (t : ℕ) (chunk : List ℕ) (at : ℕ) where
   -- where the loop is
-  pub record Reaching (latest : SampleReader) (next : ℕ) (k : InForce) : Type 0 where
-    pub rows : (rest : List ℕ) (rows : List Sample) → rowsAhead ahead (yetToCome m (drop at chunk ++ rest)) ≡ accepted rows
-        → CameIn now rows t (yetToCome latest (drop next chunk ++ rest)) k
+  pub record Reaching (latest : Begun) (next : ℕ) (k : InForce) : Type 0 where
+    pub rows : (rest : List ℕ) (rows : List Sample) → rowsAhead ahead (yetToCome (readerAt b line) (drop at chunk ++ rest)) ≡ accepted rows
+        → CameIn now rows t (yetToCome (readerAt latest line) (drop next chunk ++ rest)) k
     pub within : next ≤ length chunk
     pub onward : min at (length chunk) ≤ next
     pub ended : isEnded (k .ahead) ≡ isEnded ahead
     pub unread : k .unread ≡ true → k .ahead ≡ Ahead.Unread
 
-  pub reaching-start : (next : ℕ) (k : InForce) → next ≡ min at (length chunk) → k ≡ comesIn now ahead t → Reaching m next k
-  reaching-start next k e is = subst (λ (k : InForce). Reaching m next k) (sym is) (record {
+  pub reaching-start : (next : ℕ) (k : InForce) → next ≡ min at (length chunk) → k ≡ comesIn now ahead t → Reaching b next k
+  reaching-start next k e is = subst (λ (k : InForce). Reaching b next k) (sym is) (record {
     rows = λ rest rows h. comes-in-right t _ now ahead rows (rw (e, drop-least at chunk) h);
     within = omega arith;
     onward = omega arith;
@@ -206,20 +205,24 @@ module _ (m : SampleReader) (now : Sample) (ahead : Ahead) (t : ℕ) (chunk : Li
     unread = comes-in-unread now ahead t;
   })
 
-  module _ (latest : SampleReader) (next : ℕ) (k : InForce) (g : Reaching latest next k) where
-    module _ (p : Pulled) (right : PulledRight latest chunk next p) (u : k .unread ≡ true) where
+  module _ (latest : Begun) (next : ℕ) (k : InForce) (g : Reaching latest next k) where
+    module _ (p : NextRow) (right : NextRight (latest .stage) line (latest .len) chunk next p) (u : k .unread ≡ true) where
+      abbrev after : Begun
+      after = record { stage = p .stage; len = p .len }
+
       -- what the reader hands over, where the next row is unread
-      handed : (rest : List ℕ) (rows : List Sample) (h : rowsAhead ahead (yetToCome m (drop at chunk ++ rest)) ≡ accepted rows)
-          → rowFirst (p .found) (yetToCome (p .reader) (drop (p .next) chunk ++ rest)) ≡ accepted (g .rows rest rows h .others)
-      handed rest rows h = sym (right .rows rest) ∙ ap (λ (w : Ahead). rowsAhead w (yetToCome latest (drop next chunk ++ rest))) (sym (g .unread u)) ∙ g .rows rest rows h .comes
+      handed : (rest : List ℕ) (rows : List Sample) (h : rowsAhead ahead (yetToCome (readerAt b line) (drop at chunk ++ rest)) ≡ accepted rows)
+          → rowFirst (p .found) (yetToCome (readerAt after line) (drop (p .next) chunk ++ rest)) ≡ accepted (g .rows rest rows h .others)
+      unfolding yetToCome
+      handed rest rows h = sym (right .rows rest) ∙ ap (λ (w : Ahead). rowsAhead w (yetToCome (readerAt latest line) (drop next chunk ++ rest))) (sym (g .unread u)) ∙ g .rows rest rows h .comes
 
       unended : isEnded ahead ≡ false
       unended = sym (g .ended) ∙ ap isEnded (g .unread u)
 
-      pub reaching-more : (x : Sample) (k′ : InForce) → p .found ≡ Found.Row x → k′ ≡ comesIn (k .now) (Ahead.Next x) t → Reaching (p .reader) (p .next) k′
-      reaching-more x k′ e is = subst (λ (k : InForce). Reaching (p .reader) (p .next) k) (sym is) (record {
+      pub reaching-more : (x : Sample) (k′ : InForce) → p .found ≡ Found.Row x → k′ ≡ comesIn (k .now) (Ahead.Next x) t → Reaching after (p .next) k′
+      reaching-more x k′ e is = subst (λ (k : InForce). Reaching after (p .next) k) (sym is) (record {
         rows = λ rest rows h. let c = g .rows rest rows h in
-            let f = ap (λ (f : Found). rowFirst f (yetToCome (p .reader) (drop (p .next) chunk ++ rest))) (sym e) ∙ handed rest rows h in
+            let f = ap (λ (f : Found). rowFirst f (yetToCome (readerAt after line) (drop (p .next) chunk ++ rest))) (sym e) ∙ handed rest rows h in
             let d = comes-in-right t _ (k .now) (Ahead.Next x) (c .others) f in
             record { others = d .others; comes = d .comes; onward = onward-then (c .onward) (d .onward); force = d .force };
         within = right .within;
@@ -228,29 +231,29 @@ module _ (m : SampleReader) (now : Sample) (ahead : Ahead) (t : ℕ) (chunk : Li
         unread = comes-in-unread (k .now) (Ahead.Next x) t;
       })
 
-      -- the chunk ends first
+      -- the chunk has no further row
       pub not-reached : p .found ≡ Found.Nothing
-          → ReachedRight m now ahead t chunk at (record { reader = p .reader; now = k .now; ahead = Ahead.Unread; next = p .next; told = false })
-      not-reached e = let whole : p .next ≡ length chunk = right .exhausted (ap isRow e) in record {
+          → ReachedRight b line now ahead t chunk at (record { begun = after; now = k .now; ahead = Ahead.Unread; next = p .next; told = false })
+      not-reached e = record {
         rows = λ rest rows h. let c = g .rows rest rows h in record {
           others = c .others;
-          comes = ap (λ (f : Found). rowFirst f (yetToCome (p .reader) (drop (p .next) chunk ++ rest))) (sym e) ∙ handed rest rows h;
+          comes = ap (λ (f : Found). rowFirst f (yetToCome (readerAt after line) (drop (p .next) chunk ++ rest))) (sym e) ∙ handed rest rows h;
           onward = c .onward;
           force = λ b. never b;
         };
         within = right .within;
-        onward = omega (arith, g .onward);
-        exhausted = λ b. whole;
+        onward = let o : min next (length chunk) ≤ p .next = right .ahead in omega (arith, g .onward, g .within);
+        further = λ b. right .further (ap isRow e);
         wanted = λ b. unended;
         ended = sym unended;
       }
 
-    pub reached : k .unread ≡ false → ReachedRight m now ahead t chunk at (record { reader = latest; now = k .now; ahead = k .ahead; next = next; told = true })
+    pub reached : k .unread ≡ false → ReachedRight b line now ahead t chunk at (record { begun = latest; now = k .now; ahead = k .ahead; next = next; told = true })
     reached u = record {
       rows = λ rest rows h. let c = g .rows rest rows h in record { others = c .others; comes = c .comes; onward = c .onward; force = λ b. c .force u };
       within = g .within;
       onward = g .onward;
-      exhausted = λ b. never (sym b);
+      further = λ b. never (sym b);
       wanted = λ b. never (sym b);
       ended = g .ended;
     }

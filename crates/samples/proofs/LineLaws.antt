@@ -22,7 +22,8 @@ use Rattle.rules.specs.Lines.{Line, withoutCR, ended, atEnd, linesOf, lines}
 use Rattle.samples.specs.declared.stage.Stage.{Stage}
 use Rattle.samples.specs.declared.stage.Found.{Found}
 use Rattle.samples.specs.ToCome.{placed, samplesOf, toCome, rowFirst, endOf}
-use Rattle.samples.specs.Streamed.{begunWith, linesAfter}
+use Rattle.samples.specs.declared.reader.SampleReader.{SampleReader}
+use Rattle.samples.specs.Streamed.{begunWith, linesAfter, yetToCome}
 use Rattle.sheet.proofs.PartsAt.{index-le, part-first}
 
 -- ---- "one CR just before it is dropped"
@@ -59,6 +60,11 @@ index-before c (x ∷ s) rest h = go (eqb x c) (index-before c s rest) h
         → indexAfter b (indexOf c (s ++ rest)) ≡ indexAfter b (indexOf c s)
     go true ih h = refl
     go false ih h = ap suc (ih (omega arith))
+
+-- nothing is left, so that no LF is
+pub none-left : (c : ℕ) → indexOf c [] ≡ 0
+unfolding indexOf
+none-left c = refl
 
 -- ---- lines
 
@@ -208,6 +214,18 @@ module _ (line more : List ℕ) (len held : ℕ) (size : length line ≡ 512) (l
 
 pub take-rest : (s : List ℕ) (n : ℕ) → take (length s - n) (drop n s) ≡ drop n s
 take-rest s n = take-all (length s - n) (drop n s) (omega (arith, length-drop n s))
+
+-- a chunk's bytes after its last LF are kept, and the chunk is used up
+pub at-end-of : (s : List ℕ) (m : SampleReader) (rest : List ℕ) → yetToCome m (drop (length s) s ++ rest) ≡ yetToCome m rest
+at-end-of s m rest = rw (drop-length s)
+
+pub kept-whole : (s : List ℕ) (next : ℕ) (m m′ : SampleReader) (rest : List ℕ) → indexOf LF (drop next s) ≡ length (drop next s)
+    → (indexOf LF (take (length s - next) (drop next s)) ≡ length (take (length s - next) (drop next s)) → (rest : List ℕ) → yetToCome m (take (length s - next) (drop next s) ++ rest) ≡ yetToCome m′ rest)
+    → yetToCome m (drop next s ++ rest) ≡ yetToCome m′ (drop (length s) s ++ rest)
+kept-whole s next m m′ rest none keeps =
+    let e = take-rest s next in
+    let k = keeps (rw e none) rest in
+    ap (λ (l : List ℕ). yetToCome m (l ++ rest)) (sym e) ∙ k ∙ sym (at-end-of s m′ rest)
 
 -- the first LF from `next` on stands at `end`, which is the chunk's length where there is none
 module _ (chunk : List ℕ) (next end : ℕ) (first : end ≡ next + indexOf LF (slice next (length chunk) chunk)) where

@@ -6,9 +6,11 @@ use mathlib.Core.Bool.{Bool, true, false}
 use mathlib.Core.List.{List, [], _∷_, _++_}
 use lib.ListN.{length, drop}
 use lib.Dec.{leb}
+use Rattle.bytes.specs.Bytes.{indexOf}
 use Rattle.rules.specs.declared.samples.Sample.{Sample}
 use Rattle.rules.specs.declared.run.Inputs.{Inputs}
 use Rattle.rules.specs.Numbers.{if_then_else_}
+use Rattle.rules.specs.Bytes.{LF}
 use Rattle.rules.specs.Answers.{Answer, accepted, refused, refusalOf}
 use Rattle.rules.specs.SampleFile.{holding}
 use Rattle.rules.specs.Run.{inputsOf}
@@ -19,6 +21,7 @@ use Rattle.samples.specs.declared.inputs.Ahead.{Ahead}
 use Rattle.samples.specs.declared.inputs.InputSource.{InputSource}
 use Rattle.samples.specs.declared.inputs.Filled.{Filled}
 use Rattle.samples.specs.declared.inputs.InForce.{InForce}
+use Rattle.samples.specs.declared.inputs.Begun.{Begun}
 use Rattle.samples.specs.declared.inputs.Reached.{Reached}
 use Rattle.samples.specs.ToCome.{rowFirst}
 use Rattle.samples.specs.Streamed.{yetToCome, isRefused}
@@ -102,20 +105,24 @@ comesIn now (Ahead.Last x) t = lastComesIn now x t
 comesIn now Ahead.Ended t = record { now = now; ahead = Ahead.Ended; unread = false }
 comesIn now (Ahead.Refused r) t = record { now = now; ahead = Ahead.Refused r; unread = false }
 
+-- the reader of a line that has begun
+abbrev pub readerAt : Begun → List ℕ → SampleReader
+readerAt b line = record { line = line; len = b .len; stage = b .stage }
+
 -- where second t was reached: the rows to come, and whether the row in force is known to be that second's
-pub record AtSecond (now : Sample) (rows : List Sample) (t : ℕ) (r : Reached) (left : List ℕ) : Type 0 where
+pub record AtSecond (now : Sample) (rows : List Sample) (t : ℕ) (r : Reached) (line left : List ℕ) : Type 0 where
   pub others : List Sample
-  pub comes : rowsAhead (r .ahead) (yetToCome (r .reader) left) ≡ accepted others
+  pub comes : rowsAhead (r .ahead) (yetToCome (readerAt (r .begun) line) left) ≡ accepted others
   pub onward : Onward now rows t (r .now) others
   pub force : r .told ≡ true → holding (r .now) others t ≡ r .now
 
 -- what reaching a second owes, with a chunk from a place on
-pub record ReachedRight (m : SampleReader) (now : Sample) (ahead : Ahead) (t : ℕ) (chunk : List ℕ) (at : ℕ) (r : Reached) : Type 0 where
-  pub rows : (rest : List ℕ) (rows : List Sample) → rowsAhead ahead (yetToCome m (drop at chunk ++ rest)) ≡ accepted rows
-      → AtSecond now rows t r (drop (r .next) chunk ++ rest)
+pub record ReachedRight (b : Begun) (line : List ℕ) (now : Sample) (ahead : Ahead) (t : ℕ) (chunk : List ℕ) (at : ℕ) (r : Reached) : Type 0 where
+  pub rows : (rest : List ℕ) (rows : List Sample) → rowsAhead ahead (yetToCome (readerAt b line) (drop at chunk ++ rest)) ≡ accepted rows
+      → AtSecond now rows t r line (drop (r .next) chunk ++ rest)
   pub within : r .next ≤ length chunk
   pub onward : min at (length chunk) ≤ r .next
-  pub exhausted : r .told ≡ false → r .next ≡ length chunk
+  pub further : r .told ≡ false → indexOf LF (drop (r .next) chunk) ≡ length (drop (r .next) chunk)
   pub wanted : r .told ≡ false → isEnded ahead ≡ false
   pub ended : isEnded (r .ahead) ≡ isEnded ahead
 

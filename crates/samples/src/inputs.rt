@@ -6,15 +6,17 @@ ghost use mathlib.Core.List.{List, []};
 ghost use lib.ListN.{length};
 ghost use Rattle.rules.specs.SampleFile.{sampleFile, beforeAll};
 ghost use Rattle.samples.specs.ToCome.{placed};
-ghost use Rattle.samples.specs.Held.{sourceRows, sourceRefused, lastComesIn, comesIn, aheadAtEnd, ReachedRight, FilledRight, EndedRight};
+ghost use Rattle.samples.specs.Held.{sourceRows, sourceRefused, lastComesIn, comesIn, aheadAtEnd, readerAt, ReachedRight, FilledRight, EndedRight};
 use crate::check::line_refused;
 use crate::reader::Ending;
 use crate::reader::SampleReader;
 use crate::reader::end;
+use crate::reader::kept;
 use crate::reader::lesser;
-use crate::reader::pull;
+use crate::reader::next_row;
 use crate::reader::reader;
 use crate::stage::Found;
+use crate::stage::Stage;
 use rules::answers::Refusal;
 use rules::samples::Sample;
 
@@ -55,9 +57,15 @@ struct InForce {
     unread: bool,
 }
 
+// What the lines so far came to, and how many bytes of a line have begun.
+struct Begun {
+    stage: Stage,
+    len: usize,
+}
+
 // The row in force at a second; `told` is false where the chunk ends before that is known.
 struct Reached {
-    reader: SampleReader,
+    begun: Begun,
     now: Sample,
     ahead: Ahead,
     next: usize,
@@ -139,39 +147,42 @@ fn comes_in(held: Sample, ahead: Ahead, second: usize) -> InForce
 
 // The row in force at a second, with as many rows of the chunk as it takes.
 fn reach(
-    reader: SampleReader,
+    begun: Begun,
+    line: &[u8; 512],
     held: Sample,
     ahead: Ahead,
     second: usize,
     chunk: &[u8],
     at: usize,
 ) -> Reached
-    ensures { λ r. ⌜ ReachedRight reader held ahead second (now (chunk .entry)) at r ⌝ }
+    ensures { λ r. ⌜ ReachedRight begun (now (line .entry)) held ahead second (now (chunk .entry)) at r ⌝ }
 {
-    let mut latest = reader;
+    let mut stage = begun.stage;
+    let mut len = begun.len;
     let mut next = lesser(at, chunk.len());
     let mut known = comes_in(held, ahead, second);
     while known.unread {
-        let pulled = pull(latest, chunk, next);
-        latest = pulled.reader;
-        next = pulled.next;
+        let further = next_row(stage, line, len, chunk, next);
+        stage = further.stage;
+        len = further.len;
+        next = further.next;
         let row = known.now;
-        let found = pulled.found;
-        let Found::Row(further) = found else {
+        let found = further.found;
+        let Found::Row(sample) = found else {
             return Reached {
-                reader: latest,
+                begun: Begun { stage, len },
                 now: row,
                 ahead: Ahead::Unread,
                 next,
                 told: false,
             };
         };
-        known = comes_in(row, Ahead::Next(further), second);
+        known = comes_in(row, Ahead::Next(sample), second);
     }
     let row = known.now;
     let rows = known.ahead;
     Reached {
-        reader: latest,
+        begun: Begun { stage, len },
         now: row,
         ahead: rows,
         next,
@@ -213,6 +224,70 @@ pub fn source_refused(source: InputSource) -> bool
     }
 }
 
+// The reader of a line that has begun.
+fn reader_at(begun: Begun, line: [u8; 512]) -> SampleReader
+    ensures { λ r. ⌜ r ≡ readerAt begun line ⌝ }
+{
+    let stage = begun.stage;
+    SampleReader {
+        line,
+        len: begun.len,
+        stage,
+    }
+}
+
+// The seconds of a file that is not refused; `first` is the first of them.
+fn fill_seconds(
+    source: InputSource,
+    first: usize,
+    chunk: &[u8],
+    at: usize,
+    loads: &mut [u32],
+    solars: &mut [u32],
+    sheddables: &mut [u32],
+) -> Filled
+    requires { ⌜ (first ≤ 4294967295) × (sourceRefused source ≡ false) ⌝ }
+    ensures { λ r. ⌜ FilledRight source first (now (chunk .entry)) at (now (loads .entry)) (now (solars .entry)) (now (sheddables .entry)) r (now (loads .exit)) (now (solars .exit)) (now (sheddables .exit)) ⌝ }
+{
+    let places = lesser(loads.len(), lesser(solars.len(), sheddables.len()));
+    let reader = source.reader;
+    let line = reader.line;
+    let stage = reader.stage;
+    let mut begun = Begun {
+        stage,
+        len: reader.len,
+    };
+    let mut now = source.now;
+    let mut ahead = source.ahead;
+    let mut next = lesser(at, chunk.len());
+    let mut i = 0;
+    while i < places {
+        let reached = reach(begun, &line, now, ahead, first + i, chunk, next);
+        begun = reached.begun;
+        now = reached.now;
+        ahead = reached.ahead;
+        next = reached.next;
+        if !reached.told {
+            let reader = kept(reader_at(begun, line), &chunk[next..]);
+            return Filled {
+                source: InputSource { reader, now, ahead },
+                next: chunk.len(),
+                seconds: i,
+            };
+        }
+        loads[i] = now.load;
+        solars[i] = now.solar;
+        sheddables[i] = now.sheddable;
+        i += 1;
+    }
+    let reader = reader_at(begun, line);
+    Filled {
+        source: InputSource { reader, now, ahead },
+        next,
+        seconds: i,
+    }
+}
+
 // The inputs of the seconds from `second` on, one in each place of the three slices, as far as the chunk from `at` on tells them.
 pub fn fill(
     source: InputSource,
@@ -232,44 +307,8 @@ pub fn fill(
             seconds: 0,
         };
     }
-    let places = lesser(loads.len(), lesser(solars.len(), sheddables.len()));
     let first = wide(second);
-    let mut reader = source.reader;
-    let mut held = source.now;
-    let mut ahead = source.ahead;
-    let mut next = lesser(at, chunk.len());
-    let mut i = 0;
-    while i < places {
-        let reached = reach(reader, held, ahead, first + i, chunk, next);
-        reader = reached.reader;
-        held = reached.now;
-        ahead = reached.ahead;
-        next = reached.next;
-        if !reached.told {
-            return Filled {
-                source: InputSource {
-                    reader,
-                    now: held,
-                    ahead,
-                },
-                next,
-                seconds: i,
-            };
-        }
-        loads[i] = held.load;
-        solars[i] = held.solar;
-        sheddables[i] = held.sheddable;
-        i += 1;
-    }
-    Filled {
-        source: InputSource {
-            reader,
-            now: held,
-            ahead,
-        },
-        next,
-        seconds: i,
-    }
+    fill_seconds(source, first, chunk, at, loads, solars, sheddables)
 }
 
 // What is ahead at the end of the file, where the reader's last line gave this.
