@@ -14,6 +14,8 @@ ghost use Rattle.samples.specs.Streamed.{textOf, yetToCome, LineRight, N
 use crate::stage::Found;
 use crate::stage::Stage;
 use crate::stage::Turn;
+use crate::stage::after_later;
+use crate::stage::next_line;
 use crate::stage::take_line;
 use crate::stage::too_long;
 use crate::stage::verdict_at;
@@ -21,6 +23,9 @@ use rules::answers::Refusal;
 use rules::answers::Verdict;
 use rules::limits::MOST_LINE;
 use rules::samples::Sample;
+use sheet::rows::RowRead;
+use sheet::usual::Usual;
+use sheet::usual::usual_row;
 
 // The bytes of the line that has begun, and what the lines before it came to.
 pub struct SampleReader {
@@ -184,7 +189,7 @@ pub fn reader() -> SampleReader
 }
 
 // The line from a place of the chunk on, with the bytes that it had before, where the chunk has its LF.
-fn line_at(stage: Stage, line: &[u8; 512], len: usize, chunk: &[u8], at: usize) -> LineTurn
+fn any_line(stage: Stage, line: &[u8; 512], len: usize, chunk: &[u8], at: usize) -> LineTurn
     requires { ⌜ at < length (now chunk) ⌝ }
     ensures { λ r. ⌜ LineRight stage (take len (now (line .entry))) (now (chunk .entry)) at r ⌝ }
 {
@@ -204,6 +209,32 @@ fn line_at(stage: Stage, line: &[u8; 512], len: usize, chunk: &[u8], at: usize) 
         stage: after,
         found,
         next: end + 1,
+        ended: true,
+    }
+}
+
+// The same; the usual row lies whole in the chunk, and is read in one pass over its bytes.
+fn line_at(stage: Stage, line: &[u8; 512], len: usize, chunk: &[u8], at: usize) -> LineTurn
+    requires { ⌜ at < length (now chunk) ⌝ }
+    ensures { λ r. ⌜ LineRight stage (take len (now (line .entry))) (now (chunk .entry)) at r ⌝ }
+{
+    if 0 < len {
+        return any_line(stage, line, len, chunk, at);
+    }
+    let Stage::LaterRows(columns, last, lines) = stage else {
+        return any_line(stage, line, len, chunk, at);
+    };
+    let usual = usual_row(columns, chunk, at);
+    let Usual::Row(sample, next) = usual else {
+        return any_line(stage, line, len, chunk, at);
+    };
+    let turn = after_later(columns, last, next_line(lines), RowRead::Values(sample));
+    let after = turn.stage;
+    let found = turn.found;
+    LineTurn {
+        stage: after,
+        found,
+        next,
         ended: true,
     }
 }

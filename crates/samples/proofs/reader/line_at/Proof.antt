@@ -1,72 +1,93 @@
 -- `samples::reader::line_at` meets its contract. Assumes nothing.
-use Prim.Native.Nat.{_≤_, _<_}
-use mathlib.Core.Path.{sym}
+use mathlib.Core.Path.{_≡_, sym}
 use native.Mathlib.Omega.{arith}
-use lib.ListN.{length, take}
 use Rattle.rules.proofs.Tests.{never}
-use Rattle.samples.proofs.LineLaws.{take-rest, no-further, one-line}
+use Rattle.sheet.specs.Usual.{UsualRight}
+use Rattle.samples.proofs.LineLaws.{usual-told}
 use borrow.Author.Needs.{needs}
 use Rattle.samples.proofs.reader.line_at.Statement.{statement}
 use Rattle.samples.proofs.reader.line_at.Tie as tie
 use Rattle.samples.proofs.reader.line_at.Reads as reads
 use Rattle.samples.proofs.reader.line_at.Lts as lts
-use Rattle.bytes.proofs.scan.find.Reads as find-reads
-use Rattle.samples.proofs.reader.joined_line.Reads as joined-line-reads
+use Rattle.samples.proofs.reader.any_line.Reads as any-line-reads
+use Rattle.samples.proofs.stage.after_later.Reads as after-later-reads
+use Rattle.samples.proofs.stage.next_line.Reads as next-line-reads
+use Rattle.sheet.proofs.usual.usual_row.Reads as usual-row-reads
 
--- src/reader.rt:191:9
-find-requires : tie.Need-find-requires
-find-requires c κs = search needs
+-- src/reader.rt:222:9
+any-line-requires : tie.Need-any-line-requires
+any-line-requires c κs = search needs
 
--- src/reader.rt:193:9
+-- src/reader.rt:222:9
 returns : tie.Need-returns
-returns c =
-    let s = c .before .before .before .args .chunk .now in
-    let h : length s ≤ c .before .find .result = c .if1 .taken in
-    let n = no-further s (c .before .before .before .args .at) (c .before .find .result) (c .before .find .ensures .0) h in
-    record { line = λ e. never e; onward = λ e. never e; within = omega (arith, c .before .before .before .pre); further = λ e. rw (take-rest s (c .before .before .before .args .at)) at n }
+returns c = search needs
 
--- src/reader.rt:200:46
-sub-joined-line : tie.Need-sub-joined-line
-sub-joined-line c = search needs
+-- src/reader.rt:224:26
+enum-known-stage : tie.Need-enum-known-stage
+enum-known-stage c = search needs
 
--- src/reader.rt:200:46
-part-joined-line-start : tie.Need-part-joined-line-start
-part-joined-line-start c = search needs
+-- src/reader.rt:225:9
+any-line-requires-2 : tie.Need-any-line-requires-2
+any-line-requires-2 c κs = search needs
 
--- src/reader.rt:200:46
-part-joined-line-end : tie.Need-part-joined-line-end
-part-joined-line-end c = search needs
-
--- src/reader.rt:200:9
-joined-line-requires : tie.Need-joined-line-requires
-joined-line-requires c κs = search needs
-
--- src/reader.rt:206:15
-add-t10 : tie.Need-add-t10
-add-t10 c = search needs
-
--- src/reader.rt:187:1
+-- src/reader.rt:225:9
 returns-2 : tie.Need-returns-2
-returns-2 c =
-    let s = c .before .before .before .before .before .args .chunk .now in
-    let h : c .before .before .before .find .result < length s = c .before .before .if1 .left in
-    let b = take (c .before .before .before .before .before .args .len) (c .before .before .before .before .before .args .line .now) in
-    record {
-      line = λ e rest. one-line s (c .before .before .before .before .before .args .at) (c .before .before .before .find .result) (c .before .before .before .find .ensures .0) (c .before .before .before .before .before .args .stage) (c .joined-line .result .stage) (c .joined-line .result .found) b rest h (c .joined-line .ensures);
-      onward = λ e. omega arith;
-      within = omega arith;
-      further = λ e. never (sym e);
-    }
+returns-2 c = search needs
+
+-- src/reader.rt:227:9
+usual-row-requires : tie.Need-usual-row-requires
+usual-row-requires c κs = search needs
+
+-- src/reader.rt:228:20
+enum-known-usual : tie.Need-enum-known-usual
+enum-known-usual c = search needs
+
+-- src/reader.rt:229:9
+enum-told : tie.Need-enum-told
+enum-told c = search needs
+
+-- src/reader.rt:229:9
+any-line-requires-3 : tie.Need-any-line-requires-3
+any-line-requires-3 c κs = search needs
+
+-- src/reader.rt:229:9
+returns-3 : tie.Need-returns-3
+returns-3 c = rw (c .before .before .before .before .before .stage .given .1) (c .any-line3 .ensures)
+
+-- src/reader.rt:231:43
+next-line-requires : tie.Need-next-line-requires
+next-line-requires c κs = search needs
+
+-- src/reader.rt:231:9
+after-later-requires : tie.Need-after-later-requires
+after-later-requires c κs = search needs
+
+-- src/reader.rt:217:1
+returns-4 : tie.Need-returns-4
+returns-4 c =
+    let s = c .before .before .before .before .before .before .before .before .before .before .before .args .chunk .now in
+    let stage = c .before .before .before .before .before .before .before .stage .given .0 in
+    let x = c .before .before .before .usual .given .0 .0 in
+    let next = c .before .before .before .usual .given .0 .1 .0 in
+    let u : UsualRight (stage .0) s (c .before .before .before .before .before .before .before .before .before .before .before .args .at) x next = rw (c .before .before .before .usual .given .1) at (c .before .before .before .before .before .usual-row .ensures) in
+    let none : c .before .before .before .before .before .before .before .before .before .before .before .args .len ≡ 0 = omega (arith, c .before .before .before .before .before .before .before .before .before .if1 .left) in
+    let told = usual-told s (c .before .before .before .before .before .before .before .before .before .before .before .args .at) (stage .0) (stage .1 .0) (stage .1 .1 .0) (c .before .next-line .result) x next (c .after-later .result .stage) (c .after-later .result .found) u (c .after-later .ensures) (c .before .next-line .ensures) in
+    record { line = λ e rest. rw (c .before .before .before .before .before .before .before .stage .given .1, none) (told rest); onward = λ e. u .onward; within = u .within; further = λ e. never (sym e) }
 
 pub line-at-spec : {M : Type 1} → statement M
 line-at-spec =
     tie.close
     (tie.spec
-    find-requires
+    any-line-requires
     returns
-    sub-joined-line
-    part-joined-line-start
-    part-joined-line-end
-    joined-line-requires
-    add-t10
-    returns-2)
+    enum-known-stage
+    any-line-requires-2
+    returns-2
+    usual-row-requires
+    enum-known-usual
+    enum-told
+    any-line-requires-3
+    returns-3
+    next-line-requires
+    after-later-requires
+    returns-4)
