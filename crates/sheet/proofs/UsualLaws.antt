@@ -1,9 +1,10 @@
 -- The usual row: digits and powers taken from a place on, and the four cells of a line. Assumes nothing.
-use Prim.Native.Nat.{ℕ, zero, suc, _+_, _-_, _*_, _^_, _≤_, _<_}
+use Prim.Native.Nat.{ℕ, zero, suc, _+_, _-_, _*_, _%_, _^_, _≤_, _<_}
 use mathlib.Core.Path.{_≡_, refl, sym, ap, subst, _∙_}
 use mathlib.Core.Bool.{Bool, true, false, _&&_, _||_}
 use mathlib.Core.List.{List, [], _∷_, _++_, append-assoc}
 use native.Mathlib.Omega.{arith}
+use native.Mathlib.Nat.{mod-eq-of-lt}
 use native.Mathlib.Numerals.{add-one}
 use lib.Dec.{leb, ltb, eqb}
 use lib.ListN.{length, take, drop, getD, length-append, length-take, length-drop, take-append-drop}
@@ -361,3 +362,18 @@ usual-line columns s at time second third fourth named room t tests b c d lf (Us
   where
     some-taken : {m : ℕ} → at + m ≡ time .end → (time .end ≡ at → ⊥) → 0 < m
     some-taken {m} e h = omega (arith, e, h)
+
+-- the difference of a byte and the digit 0, where it wraps below zero
+pub digit-of : (byte digit : ℕ) → (digit + 48) % 2 ^ 32 ≡ byte → digit ≤ 9 → (48 ≤ byte) × (byte ≤ 57) × (byte - 48 ≡ digit)
+digit-of byte digit e h =
+    let l : digit + 48 < 2 ^ 32 = omega arith in
+    let k : digit + 48 ≡ byte = sym (mod-eq-of-lt l) ∙ e in
+    (omega arith, omega arith, omega arith)
+
+pub taking-digit : (s : List ℕ) (at most before taken number digit : ℕ) → Taking s at most before (at + taken) number → taken < most → (digit + 48) % 2 ^ 32 ≡ getD s (at + taken) 0 → digit ≤ 9
+    → Taking s at most before (at + (taken + 1)) (number * 10 + digit)
+taking-digit s at most before taken number digit g h e l =
+    let d = digit-of (getD s (at + taken) 0) digit e l in
+    let k : at + taken < at + most = omega arith in
+    let z : at + taken + 1 ≡ at + (taken + 1) = omega arith in
+    subst (λ (i : ℕ). Taking s at most before i (number * 10 + digit)) z (subst (λ (x : ℕ). Taking s at most before (at + taken + 1) (number * 10 + x)) (d .2) (taking-more s at most before (at + taken) number g k (d .0) (d .1)))

@@ -47,19 +47,21 @@ fn digits_from(text: &[u8], at: usize, most: usize, before: u32) -> DigitRun
     ensures { λ r. ⌜ DigitsTaken (now (text .entry)) at most before r ⌝ }
 {
     let mut number = before;
-    let mut i = at;
-    while i < at + most {
-        let byte = text[i];
-        if byte < b'0' {
+    let mut taken = 0;
+    while taken < most {
+        let i = at + taken;
+        // one test for both ends: a byte below b'0' wraps to a large number
+        let digit = std::num::wrapping_sub_u32(wide(text[i]), 48);
+        if 9 < digit {
             return DigitRun { end: i, number };
         }
-        if b'9' < byte {
-            return DigitRun { end: i, number };
-        }
-        number = number * 10 + wide(byte - b'0');
-        i += 1;
+        number = number * 10 + digit;
+        taken += 1;
     }
-    DigitRun { end: i, number }
+    DigitRun {
+        end: at + taken,
+        number,
+    }
 }
 
 // A power from a place on: "1 to 6 digits, then nothing or a point and 1 to 3 digits", in W.
