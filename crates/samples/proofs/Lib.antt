@@ -1,4 +1,4 @@
--- Laws of lines, stages and places, and the theorems over every list of chunks.
+-- Laws of lines, stages and places, of the rows in force, and the theorems over every list of chunks.
 pub mod LineLaws
 pub mod PlaceLaws
 pub mod StageLaws
@@ -6,3 +6,6 @@ pub mod PlaceBound
 pub mod CheckLaws
 pub mod ChunkLaws
 pub mod Chunks
+pub mod HeldLaws
+pub mod FillLaws
+pub mod RowsRight

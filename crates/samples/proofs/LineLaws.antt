@@ -21,8 +21,12 @@ use Rattle.rules.specs.Bytes.{LF, CR, inFront, parts}
 use Rattle.rules.specs.Lines.{Line, withoutCR, ended, atEnd, linesOf, lines}
 use Rattle.samples.specs.declared.stage.Stage.{Stage}
 use Rattle.samples.specs.declared.stage.Found.{Found}
-use Rattle.samples.specs.ToCome.{placed, samplesOf, toCome, rowFirst, endOf}
-use Rattle.samples.specs.Streamed.{begunWith, linesAfter}
+use Rattle.samples.specs.ToCome.{mostPlace, placed, samplesOf, toCome, rowFirst, endOf}
+use Rattle.samples.specs.declared.reader.SampleReader.{SampleReader}
+use Rattle.samples.specs.Streamed.{begunWith, linesAfter, yetToCome}
+use Rattle.sheet.specs.declared.headings.Columns.{Columns}
+use Rattle.sheet.specs.Rows.{rowIn}
+use Rattle.sheet.specs.Usual.{UsualRight}
 use Rattle.sheet.proofs.PartsAt.{index-le, part-first}
 
 -- ---- "one CR just before it is dropped"
@@ -59,6 +63,11 @@ index-before c (x ∷ s) rest h = go (eqb x c) (index-before c s rest) h
         → indexAfter b (indexOf c (s ++ rest)) ≡ indexAfter b (indexOf c s)
     go true ih h = refl
     go false ih h = ap suc (ih (omega arith))
+
+-- nothing is left, so that no LF is
+pub none-left : (c : ℕ) → indexOf c [] ≡ 0
+unfolding indexOf
+none-left c = refl
 
 -- ---- lines
 
@@ -209,6 +218,18 @@ module _ (line more : List ℕ) (len held : ℕ) (size : length line ≡ 512) (l
 pub take-rest : (s : List ℕ) (n : ℕ) → take (length s - n) (drop n s) ≡ drop n s
 take-rest s n = take-all (length s - n) (drop n s) (omega (arith, length-drop n s))
 
+-- a chunk's bytes after its last LF are kept, and the chunk is used up
+pub at-end-of : (s : List ℕ) (m : SampleReader) (rest : List ℕ) → yetToCome m (drop (length s) s ++ rest) ≡ yetToCome m rest
+at-end-of s m rest = rw (drop-length s)
+
+pub kept-whole : (s : List ℕ) (next : ℕ) (m m′ : SampleReader) (rest : List ℕ) → indexOf LF (drop next s) ≡ length (drop next s)
+    → (indexOf LF (take (length s - next) (drop next s)) ≡ length (take (length s - next) (drop next s)) → (rest : List ℕ) → yetToCome m (take (length s - next) (drop next s) ++ rest) ≡ yetToCome m′ rest)
+    → yetToCome m (drop next s ++ rest) ≡ yetToCome m′ (drop (length s) s ++ rest)
+kept-whole s next m m′ rest none keeps =
+    let e = take-rest s next in
+    let k = keeps (rw e none) rest in
+    ap (λ (l : List ℕ). yetToCome m (l ++ rest)) (sym e) ∙ k ∙ sym (at-end-of s m′ rest)
+
 -- the first LF from `next` on stands at `end`, which is the chunk's length where there is none
 module _ (chunk : List ℕ) (next end : ℕ) (first : end ≡ next + indexOf LF (slice next (length chunk) chunk)) where
   place : indexOf LF (drop next chunk) ≡ end - next
@@ -233,6 +254,26 @@ module _ (chunk : List ℕ) (next end : ℕ) (first : end ≡ next + indexOf LF 
   one-line stage after found begun rest h ends =
       let b : indexOf LF (drop next chunk) < length (drop next chunk) = omega (arith, length-drop next chunk, place, not-before) in
       ap (toCome stage) (line-first begun (drop next chunk) rest b ∙ rw (after-first, place)) ∙ ends (linesAfter [] (drop (end + 1) chunk ++ rest))
+
+-- ---- the usual row
+
+line-told : (text d rest : List ℕ) → indexOf LF text ≡ length text → linesAfter [] ((text ++ LF ∷ d) ++ rest) ≡ ended text ∷ linesAfter [] (d ++ rest)
+unfolding indexOf indexAfter
+line-told text d rest h =
+    ap (linesAfter []) (append-assoc text (LF ∷ d) rest)
+    ∙ line-goes-on [] text (LF ∷ (d ++ rest)) h
+    ∙ line-first text (LF ∷ d) rest (omega arith)
+    ∙ ap (λ (t : List ℕ). ended t ∷ linesAfter [] (d ++ rest)) (append-nil text)
+
+-- the line leads to what its row gave, and then to what the bytes after its LF come to
+pub usual-told : (chunk : List ℕ) (at : ℕ) (columns : Columns) (last lines line : ℕ) (x : Sample) (next : ℕ) (after : Stage) (found : Found) → UsualRight columns chunk at x next
+    → ((l : Line) (ls : List Line) (lines : ℕ) → line ≡ min (suc lines) mostPlace → accepted x ≡ rowIn columns line l → toCome (Stage.LaterRows columns last lines) (l ∷ ls) ≡ rowFirst found (toCome after ls))
+    → line ≡ min (suc lines) mostPlace → (rest : List ℕ)
+    → toCome (Stage.LaterRows columns last lines) (linesAfter [] (drop at chunk ++ rest)) ≡ rowFirst found (toCome after (linesAfter [] (drop next chunk ++ rest)))
+usual-told chunk at columns last lines line x next after found u leads is rest =
+    ap (λ (s : List ℕ). toCome (Stage.LaterRows columns last lines) (linesAfter [] (s ++ rest))) (u .is)
+    ∙ ap (toCome (Stage.LaterRows columns last lines)) (line-told (u .text) (drop next chunk) rest (u .whole))
+    ∙ leads (ended (u .text)) (linesAfter [] (drop next chunk ++ rest)) lines is (u .row line)
 
 -- ---- the whole file, from its start to its end
 

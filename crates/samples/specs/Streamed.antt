@@ -5,6 +5,7 @@ use mathlib.Core.Path.{_≡_}
 use mathlib.Core.Bool.{Bool, true, false}
 use mathlib.Core.List.{List, [], _∷_, _++_}
 use lib.ListN.{length, take, drop}
+use Rattle.bytes.specs.Bytes.{indexOf}
 use Rattle.rules.specs.declared.samples.Sample.{Sample}
 use Rattle.rules.specs.Bytes.{LF, parts}
 use Rattle.rules.specs.Lines.{Line, withoutCR, linesOf}
@@ -13,6 +14,8 @@ use Rattle.rules.specs.SampleFile.{sampleFile}
 use Rattle.samples.specs.declared.stage.Stage.{Stage}
 use Rattle.samples.specs.declared.stage.Found.{Found}
 use Rattle.samples.specs.declared.reader.SampleReader.{SampleReader}
+use Rattle.samples.specs.declared.reader.LineTurn.{LineTurn}
+use Rattle.samples.specs.declared.reader.NextRow.{NextRow}
 use Rattle.samples.specs.declared.reader.Pulled.{Pulled}
 use Rattle.samples.specs.declared.reader.Ending.{Ending}
 use Rattle.samples.specs.declared.check.Span.{Span}
@@ -49,6 +52,21 @@ yetToCome m rest = toCome (m .stage) (linesAfter (begunIn m) rest)
 abbrev pub isRow : Found → Bool
 isRow (Found.Row x) = true
 isRow Found.Nothing = false
+
+-- what the line from a place of a chunk on owes, where the bytes `begun` of it came before
+pub record LineRight (stage : Stage) (begun chunk : List ℕ) (at : ℕ) (r : LineTurn) : Type 0 where
+  pub line : r .ended ≡ true → (rest : List ℕ) → toCome stage (linesAfter begun (drop at chunk ++ rest)) ≡ rowFirst (r .found) (toCome (r .stage) (linesAfter [] (drop (r .next) chunk ++ rest)))
+  pub onward : r .ended ≡ true → at < r .next
+  pub within : r .next ≤ length chunk
+  pub further : r .ended ≡ false → indexOf LF (drop at chunk) ≡ length (drop at chunk)
+
+-- what the next row of the lines that end in a chunk owes; what is left has no line that ends
+pub record NextRight (stage : Stage) (line : List ℕ) (len : ℕ) (chunk : List ℕ) (at : ℕ) (r : NextRow) : Type 0 where
+  pub rows : (rest : List ℕ) → toCome stage (linesAfter (take len line) (drop at chunk ++ rest)) ≡ rowFirst (r .found) (toCome (r .stage) (linesAfter (take (r .len) line) (drop (r .next) chunk ++ rest)))
+  pub within : r .next ≤ length chunk
+  pub ahead : min at (length chunk) ≤ r .next
+  pub onward : isRow (r .found) ≡ true → at < r .next
+  pub further : isRow (r .found) ≡ false → indexOf LF (drop (r .next) chunk) ≡ length (drop (r .next) chunk)
 
 -- what pulling a row out of a chunk from a place on owes
 pub record PulledRight (m : SampleReader) (chunk : List ℕ) (at : ℕ) (r : Pulled) : Type 0 where

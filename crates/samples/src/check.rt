@@ -7,7 +7,8 @@ ghost use Rattle.samples.specs.Streamed.{oneMore, sheetSpan, checkedWith
 use crate::reader::Ending;
 use crate::reader::SampleReader;
 use crate::reader::end;
-use crate::reader::pull;
+use crate::reader::kept;
+use crate::reader::next_row;
 use crate::reader::reader;
 use crate::stage::Found;
 use crate::stage::Stage;
@@ -62,17 +63,31 @@ pub fn check() -> SampleCheck
 pub fn feed(check: SampleCheck, chunk: &[u8]) -> SampleCheck
     ensures { λ r. ⌜ ((rest : List ℕ) → checkedWith check (now (chunk .entry) ++ rest) ≡ checkedWith r rest) ⌝ }
 {
-    let mut reader = check.reader;
+    let reader = check.reader;
+    let line = reader.line;
+    let mut len = reader.len;
+    let mut stage = reader.stage;
     let mut span = check.span;
     let mut at = 0;
     while at < chunk.len() {
-        let pulled = pull(reader, chunk, at);
-        let found = pulled.found;
-        reader = pulled.reader;
-        at = pulled.next;
+        let row = next_row(stage, &line, len, chunk, at);
+        let found = row.found;
+        stage = row.stage;
+        len = row.len;
+        at = row.next;
+        let Found::Row(_) = found else {
+            let begun = SampleReader { line, len, stage };
+            return SampleCheck {
+                reader: kept(begun, &chunk[at..]),
+                span,
+            };
+        };
         span = counted(span, found);
     }
-    SampleCheck { reader, span }
+    SampleCheck {
+        reader: SampleReader { line, len, stage },
+        span,
+    }
 }
 
 // The end of the file.
@@ -88,18 +103,25 @@ pub fn finish(check: SampleCheck) -> Checked
     }
 }
 
-// Whether a line was refused, so that the rest of the file needs no reading.
-pub fn is_refused(check: SampleCheck) -> bool
-    ensures { λ r. ⌜ r ≡ isRefused (check .reader .stage) ⌝ }
+// Whether the lines so far came to a refusal.
+pub(crate) fn line_refused(stage: Stage) -> bool
+    ensures { λ r. ⌜ r ≡ isRefused stage ⌝ }
 {
-    let reader = check.reader;
-    let stage = reader.stage;
     match stage {
         Stage::Heading => false,
         Stage::FirstRow(_) => false,
         Stage::LaterRows(_, _, _) => false,
         Stage::Refused(_) => true,
     }
+}
+
+// Whether a line was refused, so that the rest of the file needs no reading.
+pub fn is_refused(check: SampleCheck) -> bool
+    ensures { λ r. ⌜ r ≡ isRefused (check .reader .stage) ⌝ }
+{
+    let reader = check.reader;
+    let stage = reader.stage;
+    line_refused(stage)
 }
 
 // A file that is there as a whole.

@@ -1,4 +1,5 @@
-// The sample file, in chunks of any length: what its lines come to, its rows, and its check.
+// The sample file, in chunks of any length: what its lines come to, its rows, its check, and what each second is handed.
 pub mod check;
+pub mod inputs;
 pub mod reader;
 pub mod stage;

@@ -1,6 +1,6 @@
 // The rows of a sample file that comes in chunks of any length: the reader goes in by value and comes back.
 ghost use mathlib.Core.Path.{_≡_};
-ghost use Prim.Native.Nat.{ℕ, _≤_, min};
+ghost use Prim.Native.Nat.{ℕ, _≤_, _<_, min};
 ghost use mathlib.Core.Bool.{true};
 ghost use mathlib.Core.List.{List, [], _∷_, _++_};
 ghost use lib.ListN.{length, take};
@@ -10,10 +10,12 @@ ghost use Rattle.rules.specs.SampleFile.{sampleFile};
 ghost use Rattle.rules.specs.Bytes.{LF};
 ghost use Rattle.rules.specs.Lines.{Line, ended as endedLine, withoutCR};
 ghost use Rattle.samples.specs.ToCome.{placed, toCome, rowFirst};
-ghost use Rattle.samples.specs.Streamed.{textOf, yetToCome, PulledRight, endingOf};
+ghost use Rattle.samples.specs.Streamed.{textOf, yetToCome, LineRight, NextRight, PulledRight, endingOf};
 use crate::stage::Found;
 use crate::stage::Stage;
 use crate::stage::Turn;
+use crate::stage::after_later;
+use crate::stage::next_line;
 use crate::stage::take_line;
 use crate::stage::too_long;
 use crate::stage::verdict_at;
@@ -21,6 +23,9 @@ use rules::answers::Refusal;
 use rules::answers::Verdict;
 use rules::limits::MOST_LINE;
 use rules::samples::Sample;
+use sheet::rows::RowRead;
+use sheet::usual::Usual;
+use sheet::usual::usual_row;
 
 // The bytes of the line that has begun, and what the lines before it came to.
 pub struct SampleReader {
@@ -34,6 +39,22 @@ pub struct Pulled {
     pub reader: SampleReader,
     pub next: usize,
     pub found: Found,
+}
+
+// What a line of a chunk gave, and the place after its LF; `ended` is false where the chunk has none.
+struct LineTurn {
+    stage: Stage,
+    found: Found,
+    next: usize,
+    ended: bool,
+}
+
+// The next row of the lines that end in a chunk; the chunk is to be read on at `next`, where `len` bytes of a line have begun.
+pub(crate) struct NextRow {
+    pub(crate) stage: Stage,
+    pub(crate) len: usize,
+    pub(crate) next: usize,
+    pub(crate) found: Found,
 }
 
 // What the end of the file gives: the row of a last line without LF, none, or the refusal.
@@ -50,7 +71,7 @@ struct Extended {
     fits: bool,
 }
 
-fn lesser(a: usize, b: usize) -> usize
+pub(crate) fn lesser(a: usize, b: usize) -> usize
     ensures { λ r. ⌜ (r ≤ a) × (r ≤ b) × (r ≡ min a b) ⌝ }
 {
     if a < b { a } else { b }
@@ -135,7 +156,7 @@ fn joined_line(stage: Stage, line: &[u8; 512], len: usize, more: &[u8]) -> Turn
 }
 
 // A chunk's bytes after its last LF are kept, unless they make the line too long: then no byte of it is wanted any more.
-fn kept(reader: SampleReader, more: &[u8]) -> SampleReader
+pub(crate) fn kept(reader: SampleReader, more: &[u8]) -> SampleReader
     ensures { λ r. ⌜ (indexOf LF (now (more .entry)) ≡ length (now (more .entry)) → (rest : List ℕ) → yetToCome reader (now (more .entry) ++ rest) ≡ yetToCome r rest) ⌝ }
 {
     let stage = reader.stage;
@@ -167,40 +188,123 @@ pub fn reader() -> SampleReader
     }
 }
 
-// The next row out of the chunk, from a place on.
-pub fn pull(reader: SampleReader, chunk: &[u8], at: usize) -> Pulled
-    ensures { λ r. ⌜ PulledRight reader (now (chunk .entry)) at r ⌝ }
+// The line from a place of the chunk on, with the bytes that it had before, where the chunk has its LF.
+fn any_line(stage: Stage, line: &[u8; 512], len: usize, chunk: &[u8], at: usize) -> LineTurn
+    requires { ⌜ at < length (now chunk) ⌝ }
+    ensures { λ r. ⌜ LineRight stage (take len (now (line .entry))) (now (chunk .entry)) at r ⌝ }
 {
-    let line = reader.line;
-    let mut len = reader.len;
-    let mut stage = reader.stage;
+    let end = bytes::scan::find(chunk, at, chunk.len(), b'\n');
+    if chunk.len() <= end {
+        return LineTurn {
+            stage,
+            found: Found::Nothing,
+            next: at,
+            ended: false,
+        };
+    }
+    let turn = joined_line(stage, line, len, &chunk[at..end]);
+    let after = turn.stage;
+    let found = turn.found;
+    LineTurn {
+        stage: after,
+        found,
+        next: end + 1,
+        ended: true,
+    }
+}
+
+// The same; the usual row lies whole in the chunk, and is read in one pass over its bytes.
+fn line_at(stage: Stage, line: &[u8; 512], len: usize, chunk: &[u8], at: usize) -> LineTurn
+    requires { ⌜ at < length (now chunk) ⌝ }
+    ensures { λ r. ⌜ LineRight stage (take len (now (line .entry))) (now (chunk .entry)) at r ⌝ }
+{
+    if 0 < len {
+        return any_line(stage, line, len, chunk, at);
+    }
+    let Stage::LaterRows(columns, last, lines) = stage else {
+        return any_line(stage, line, len, chunk, at);
+    };
+    let usual = usual_row(columns, chunk, at);
+    let Usual::Row(sample, next) = usual else {
+        return any_line(stage, line, len, chunk, at);
+    };
+    let turn = after_later(columns, last, next_line(lines), RowRead::Values(sample));
+    let after = turn.stage;
+    let found = turn.found;
+    LineTurn {
+        stage: after,
+        found,
+        next,
+        ended: true,
+    }
+}
+
+// The next row out of the lines that end in the chunk, from a place on; the bytes of the line that has begun are left alone.
+pub(crate) fn next_row(
+    stage: Stage,
+    line: &[u8; 512],
+    len: usize,
+    chunk: &[u8],
+    at: usize,
+) -> NextRow
+    ensures { λ r. ⌜ NextRight stage (now (line .entry)) len (now (chunk .entry)) at r ⌝ }
+{
+    let mut latest = stage;
+    let mut begun = len;
     let mut next = lesser(at, chunk.len());
     while next < chunk.len() {
-        let end = bytes::scan::find(chunk, next, chunk.len(), b'\n');
-        if chunk.len() <= end {
-            let before = SampleReader { line, len, stage };
-            return Pulled {
-                reader: kept(before, &chunk[next..]),
-                next: end,
+        let turn = line_at(latest, line, begun, chunk, next);
+        if !turn.ended {
+            return NextRow {
+                stage: latest,
+                len: begun,
+                next,
                 found: Found::Nothing,
             };
         }
-        let turn = joined_line(stage, &line, len, &chunk[next..end]);
-        len = 0;
-        next = end + 1;
-        stage = turn.stage;
+        latest = turn.stage;
+        begun = 0;
+        next = turn.next;
         let found = turn.found;
         let Found::Nothing = found else {
-            return Pulled {
-                reader: SampleReader { line, len, stage },
+            return NextRow {
+                stage: latest,
+                len: begun,
                 next,
                 found,
             };
         };
     }
-    Pulled {
-        reader: SampleReader { line, len, stage },
+    NextRow {
+        stage: latest,
+        len: begun,
         next,
+        found: Found::Nothing,
+    }
+}
+
+// The next row out of the chunk, from a place on.
+pub fn pull(reader: SampleReader, chunk: &[u8], at: usize) -> Pulled
+    ensures { λ r. ⌜ PulledRight reader (now (chunk .entry)) at r ⌝ }
+{
+    let line = reader.line;
+    let begun = reader.stage;
+    let row = next_row(begun, &line, reader.len, chunk, at);
+    let stage = row.stage;
+    let len = row.len;
+    let next = row.next;
+    let found = row.found;
+    let after = SampleReader { line, len, stage };
+    let Found::Nothing = found else {
+        return Pulled {
+            reader: after,
+            next,
+            found,
+        };
+    };
+    Pulled {
+        reader: kept(after, &chunk[next..]),
+        next: chunk.len(),
         found: Found::Nothing,
     }
 }

@@ -37,7 +37,7 @@ pub struct Turn {
 }
 
 // One line more, up to the greatest place that 64 bits hold.
-fn next_line(lines: u64) -> u64
+pub(crate) fn next_line(lines: u64) -> u64
     ensures { λ r. ⌜ r ≡ min (suc lines) mostPlace ⌝ }
 {
     if lines < u64::MAX { lines + 1 } else { lines }
@@ -85,7 +85,7 @@ fn after_first(columns: Columns, row: RowRead) -> Turn
 }
 
 // "A later row whose time is not above the last accepted one is skipped, after its checks".
-fn after_later(columns: Columns, last: u32, line: u64, row: RowRead) -> Turn
+pub(crate) fn after_later(columns: Columns, last: u32, line: u64, row: RowRead) -> Turn
     ensures { λ r. ⌜ ((l : Line) (ls : List Line) (lines : ℕ) → line ≡ min (suc lines) mostPlace → rowOf row ≡ rowIn columns line l → toCome (Stage.LaterRows columns last lines) (l ∷ ls) ≡ rowFirst (r .found) (toCome (r .stage) ls)) ⌝ }
 {
     match row {

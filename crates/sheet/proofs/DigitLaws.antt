@@ -72,7 +72,7 @@ below-more n v d h k = rw pow-suc (omega arith)
 pub below-most : (n most v : ℕ) → n ≤ most → v < 10 ^ n → v < 10 ^ most
 below-most n most v h l = lt-of-lt-of-le l (pow-le-pow-right (omega arith) h)
 
-from-below : (s : List ℕ) (n v : ℕ) → v < 10 ^ n → allDigits s ≡ true → valueFrom v s < 10 ^ (n + length s)
+pub from-below : (s : List ℕ) (n v : ℕ) → v < 10 ^ n → allDigits s ≡ true → valueFrom v s < 10 ^ (n + length s)
 unfolding allDigits valueFrom
 from-below [] n v h all = rw add-zero h
 from-below (x ∷ s) n v h all =

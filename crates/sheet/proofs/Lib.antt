@@ -8,3 +8,4 @@ pub mod ColumnsRead
 pub mod HeadingLineLaws
 pub mod RowLaws
 pub mod RowCells
+pub mod UsualLaws

@@ -59,7 +59,7 @@ module _ (columns : Columns) (line size : ℕ) (text : List ℕ) where
     unfolding rowValues cellsOf
     other-count h = rw (le-leb size 512 short, ne-eqb (length (parts comma text)) 4 h)
 
-    four : (a b c d : List ℕ) → parts comma text ≡ a ∷ b ∷ c ∷ d ∷ [] → rowOfCells columns line (a ∷ b ∷ c ∷ d ∷ []) ≡ whole
+    pub four : (a b c d : List ℕ) → parts comma text ≡ a ∷ b ∷ c ∷ d ∷ [] → rowOfCells columns line (a ∷ b ∷ c ∷ d ∷ []) ≡ whole
     unfolding rowValues cellsOf rowOfCells rowOfValues sampleSheet
     four a b c d e = rw (le-leb size 512 short, e) (sym (two-steps (cellValues line (sampleSheet .limits) (columnsOf columns) (a ∷ b ∷ c ∷ d ∷ [])) _ _))
 

@@ -91,7 +91,7 @@ module _ (c : Columns) (line : ℕ) (first second third fourth : List ℕ) where
   abbrev whole : Answer Sample
   whole = rowOfCells c line (first ∷ second ∷ third ∷ fourth ∷ [])
 
-  one-by-one : whole ≡ (cell line limits 0 first >>= λ (a : ℕ). (cell line limits (c .second) second >>= λ (x : ℕ). (cell line limits (c .third) third >>= λ (y : ℕ).
+  pub one-by-one : whole ≡ (cell line limits 0 first >>= λ (a : ℕ). (cell line limits (c .second) second >>= λ (x : ℕ). (cell line limits (c .third) third >>= λ (y : ℕ).
       (cell line limits (c .fourth) fourth >>= λ (z : ℕ). rowOfValues c line (a ∷ x ∷ y ∷ z ∷ [])))))
   unfolding rowOfCells cellValues
   one-by-one = flat (cell line limits 0 first) (cell line limits (c .second) second) (cell line limits (c .third) third) (cell line limits (c .fourth) fourth) (rowOfValues c line)

@@ -3,3 +3,4 @@ pub mod Digits
 pub mod Cells
 pub mod Headings
 pub mod Rows
+pub mod Usual

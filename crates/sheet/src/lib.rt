@@ -3,3 +3,4 @@ pub mod cells;
 pub mod headings;
 pub mod numbers;
 pub mod rows;
+pub mod usual;

@@ -26,7 +26,7 @@ enum Digits {
 }
 
 // A byte is cast in a function of its own, so that each caller has only the index to show.
-fn wide(byte: u8) -> u32
+pub(crate) fn wide(byte: u8) -> u32
     ensures { λ r. ⌜ r ≡ byte ⌝ }
 {
     byte as u32
@@ -60,7 +60,7 @@ fn digits_of(part: &[u8], most: usize) -> Digits
 }
 
 // What the last of so many decimals of a kW is worth, in W.
-fn last_worth(decimals: usize) -> u32
+pub(crate) fn last_worth(decimals: usize) -> u32
     ensures { λ r. ⌜ (r ≡ 10 ^ (3 - decimals)) × (r ≤ 1000) ⌝ }
 {
     match decimals {

@@ -20,10 +20,10 @@ pub enum RowRead {
 }
 
 // The values of the columns after the time's, in the file's order.
-struct Powers {
-    second: u32,
-    third: u32,
-    fourth: u32,
+pub(crate) struct Powers {
+    pub(crate) second: u32,
+    pub(crate) third: u32,
+    pub(crate) fourth: u32,
 }
 
 // The refusal of a cell that has no value.
@@ -54,7 +54,7 @@ fn value_under(name: u8, columns: Columns, powers: Powers) -> u32
 }
 
 // 20: "sheddable load above load".
-fn agreeing(line: u64, columns: Columns, at: u32, powers: Powers) -> RowRead
+pub(crate) fn agreeing(line: u64, columns: Columns, at: u32, powers: Powers) -> RowRead
     ensures { λ r. ⌜ rowOf r ≡ rowOfValues columns line (at ∷ powers .second ∷ powers .third ∷ powers .fourth ∷ []) ⌝ }
 {
     let load = value_under(1, columns, powers);

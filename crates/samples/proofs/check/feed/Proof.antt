@@ -1,62 +1,96 @@
 -- `samples::check::feed` meets its contract. Assumes nothing.
-use Prim.Native.Nat.{ℕ, _-_}
+use Prim.Native.Nat.{ℕ, _-_, _≤_}
 use mathlib.Core.List.{List, _++_}
 use mathlib.Core.Path.{_≡_, refl, sym, ap, _∙_}
 use native.Mathlib.Omega.{arith}
 use lib.ListN.{length, drop, drop-of-length-le}
 use borrow.Author.Needs.{needs}
+use Rattle.samples.specs.declared.reader.SampleReader.{SampleReader}
 use Rattle.samples.specs.declared.check.Span.{Span}
-use Rattle.samples.specs.Streamed.{yetToCome, spanned, checkedWith}
-use Rattle.samples.proofs.CheckLaws.{found-counted, pull-ahead}
+use Rattle.samples.specs.Streamed.{yetToCome, isRow, spanned, checkedWith}
+use Rattle.samples.proofs.LineLaws.{kept-whole, at-end-of}
+use Rattle.samples.proofs.CheckLaws.{found-counted}
 use Rattle.samples.proofs.check.feed.Statement.{statement}
 use Rattle.samples.proofs.check.feed.Tie as tie
 use Rattle.samples.proofs.check.feed.Reads as reads
 use Rattle.samples.proofs.check.feed.Lts as lts
 use Rattle.samples.proofs.check.counted.Reads as counted-reads
-use Rattle.samples.proofs.reader.pull.Reads as pull-reads
+use Rattle.samples.proofs.reader.kept.Reads as kept-reads
+use Rattle.samples.proofs.reader.next_row.Reads as next-row-reads
 
 abbrev Inv-loop : tie.InvT-loop
-Inv-loop chunk reader₀ span₀ at₀ reader span at = (rest : List ℕ) → spanned span₀ (yetToCome reader₀ (chunk ++ rest)) ≡ spanned span (yetToCome reader (drop at chunk ++ rest))
+Inv-loop chunk line len₀ stage₀ span₀ at₀ len stage span at = (at ≤ length chunk) × ((rest : List ℕ) → spanned span₀ (yetToCome (record { line = line; len = len₀; stage = stage₀ }) (chunk ++ rest)) ≡ spanned span (yetToCome (record { line = line; len = len; stage = stage }) (drop at chunk ++ rest)))
 
 abbrev μ-loop : tie.MeasureT-loop
-μ-loop chunk reader₀ span₀ at₀ reader span at = length chunk - at
+μ-loop chunk line len₀ stage₀ span₀ at₀ len stage span at = length chunk - at
 
--- src/check.rt:68:5
+-- src/check.rt:72:5
 loop-holds : tie.Need-loop-holds Inv-loop μ-loop
-loop-holds c = λ rest. refl
+loop-holds c = (omega arith, λ rest. refl)
 
--- src/check.rt:69:13
-pull-requires : tie.Need-pull-requires Inv-loop μ-loop
-pull-requires c κs = search needs
+-- src/check.rt:73:13
+next-row-requires : tie.Need-next-row-requires Inv-loop μ-loop
+next-row-requires c κs = search needs
 
--- src/check.rt:73:9
+enum-told : tie.Need-enum-told Inv-loop μ-loop
+enum-told c = search needs
+
+-- src/check.rt:79:40
+enum-told-2 : tie.Need-enum-told-2 Inv-loop μ-loop
+enum-told-2 c = search needs
+
+-- src/check.rt:81:37
+sub-kept : tie.Need-sub-kept Inv-loop μ-loop
+sub-kept c = search needs
+
+-- src/check.rt:81:37
+part-kept-start : tie.Need-part-kept-start Inv-loop μ-loop
+part-kept-start c = search needs
+
+-- src/check.rt:81:37
+part-kept-end : tie.Need-part-kept-end Inv-loop μ-loop
+part-kept-end c = search needs
+
+-- src/check.rt:81:25
+kept-requires : tie.Need-kept-requires Inv-loop μ-loop
+kept-requires c κs = search needs
+
+-- src/check.rt:80:13
+returns : tie.Need-returns Inv-loop μ-loop
+unfolding checkedWith yetToCome
+returns c =
+    let n = c .before .before .before .before .next-row .ensures in
+    let e = c .before .before .enum-told2 .given .1 in
+    let f = n .further (ap isRow e) in
+    λ rest. c .before .before .before .before .before .before .before .loop .inv .1 rest ∙ ap (spanned (c .before .before .before .before .before .before .before .loop .span)) (rw e at (n .rows rest) ∙ kept-whole (c .before .before .before .before .before .before .before .before .before .before .before .before .args .chunk .now) (c .before .before .before .before .next-row .result .next) (record { line = c .before .before .before .before .before .before .before .before .before .before .before .before .args .check .reader .line; len = c .before .before .before .before .next-row .result .len; stage = c .before .before .before .before .next-row .result .stage }) (c .kept .result) rest f (c .kept .ensures) ∙ at-end-of (c .before .before .before .before .before .before .before .before .before .before .before .before .args .chunk .now) (c .kept .result) rest)
+
+-- src/check.rt:85:9
 counted-requires : tie.Need-counted-requires Inv-loop μ-loop
 counted-requires c κs = search needs
 
--- src/check.rt:68:5
+-- src/check.rt:72:5
 loop-less : tie.Need-loop-less Inv-loop μ-loop
-loop-less c =
-    let pull = c .before .before in
-    let h = pull-ahead _ _ _ _ (pull .pull .ensures) (pull .before .loop-test .taken) in
-    omega (arith, h)
+loop-less c = let o = c .before .before .before .next-row .ensures .onward (ap isRow (c .before .enum-told .given .1)) in omega (arith, o, c .before .before .before .next-row .ensures .within)
 
--- src/check.rt:68:5
+-- src/check.rt:72:5
 loop-again : tie.Need-loop-again Inv-loop μ-loop
+unfolding yetToCome
 loop-again c =
-    let pull = c .before .before in
-    let loop = pull .before .before in
-    let left : List ℕ → List ℕ = λ rest. drop (pull .pull .result .next) (loop .before .before .before .before .args .chunk .now) ++ rest in
-    λ rest. loop .loop .inv rest
-    ∙ ap (spanned (loop .loop .span)) (pull .pull .ensures .rows rest)
-    ∙ found-counted (loop .loop .span) (pull .pull .result .found) (yetToCome (pull .pull .result .reader) (left rest))
-    ∙ ap (λ (s : Span). spanned s (yetToCome (pull .pull .result .reader) (left rest))) (sym (c .counted .ensures))
+    let n = c .before .before .before .next-row .ensures in
+    let after : SampleReader = record { line = c .before .before .before .before .before .before .before .before .before .before .before .args .check .reader .line; len = c .before .before .before .next-row .result .len; stage = c .before .before .before .next-row .result .stage } in
+    let left : List ℕ → List ℕ = λ rest. drop (c .before .before .before .next-row .result .next) (c .before .before .before .before .before .before .before .before .before .before .before .args .chunk .now) ++ rest in (
+      n .within,
+      λ rest. c .before .before .before .before .before .before .loop .inv .1 rest
+          ∙ ap (spanned (c .before .before .before .before .before .before .loop .span)) (n .rows rest)
+          ∙ found-counted (c .before .before .before .before .before .before .loop .span) (c .before .before .before .next-row .result .found) (yetToCome after (left rest))
+          ∙ ap (λ (s : Span). spanned s (yetToCome after (left rest))) (sym (c .counted .ensures)),
+    )
 
--- src/check.rt:62:1
-returns : tie.Need-returns Inv-loop μ-loop
+-- src/check.rt:63:1
+returns-2 : tie.Need-returns-2 Inv-loop μ-loop
 unfolding checkedWith
-returns c =
-    let loop = c .before in
-    λ rest. rw (drop-of-length-le _ (c .loop-test .left)) at (loop .loop .inv rest)
+returns-2 c =
+    λ rest. rw (drop-of-length-le _ (c .loop-test .left)) at (c .before .loop .inv .1 rest)
 
 pub feed-spec : {M : Type 1} → statement M
 feed-spec =
@@ -65,8 +99,15 @@ feed-spec =
     Inv-loop
     μ-loop
     loop-holds
-    pull-requires
+    next-row-requires
+    enum-told
+    enum-told-2
+    sub-kept
+    part-kept-start
+    part-kept-end
+    kept-requires
+    returns
     counted-requires
     loop-less
     loop-again
-    returns)
+    returns-2)

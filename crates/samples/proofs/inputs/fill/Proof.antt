@@ -1,0 +1,57 @@
+-- `samples::inputs::fill` meets its contract. Assumes nothing.
+use mathlib.Core.Path.{sym, _∙_}
+use native.Mathlib.Omega.{arith}
+use borrow.Author.Needs.{needs}
+use Rattle.samples.proofs.FillLaws.{filled-none}
+use Rattle.samples.proofs.inputs.fill.Statement.{statement}
+use Rattle.samples.proofs.inputs.fill.Tie as tie
+use Rattle.samples.proofs.inputs.fill.Reads as reads
+use Rattle.samples.proofs.inputs.fill.Lts as lts
+use Rattle.samples.proofs.inputs.fill_seconds.Reads as fill-seconds-reads
+use Rattle.samples.proofs.inputs.source_refused.Reads as source-refused-reads
+use Rattle.samples.proofs.inputs.wide.Reads as wide-reads
+
+-- src/inputs.rt:303:8
+source-refused-requires : tie.Need-source-refused-requires
+source-refused-requires c κs = search needs
+
+-- src/inputs.rt:304:9
+returns : tie.Need-returns
+returns c = filled-none (c .before .before .before .before .before .before .args .source) (c .before .before .before .before .before .before .args .second) (c .before .before .before .before .before .before .args .chunk .now) (c .before .before .before .before .before .before .args .at) (c .before .before .before .before .before .before .args .loads .now) (c .before .before .before .before .before .before .args .solars .now) (c .before .before .before .before .before .before .args .sheddables .now) (sym (c .before .source-refused .ensures) ∙ c .if1 .taken)
+
+-- src/inputs.rt:310:9
+wide-requires : tie.Need-wide-requires
+wide-requires c κs = search needs
+
+-- src/inputs.rt:311:5
+fill-seconds-requires : tie.Need-fill-seconds-requires
+fill-seconds-requires c κs = (omega (arith, c .before .before .before .wide .ensures .1), sym (c .before .before .before .before .before .source-refused .ensures) ∙ c .before .before .before .before .if1 .left)
+
+-- src/inputs.rt:292:1
+same-length : tie.Need-same-length
+same-length c = search needs
+
+-- src/inputs.rt:292:1
+same-length-2 : tie.Need-same-length-2
+same-length-2 c = search needs
+
+-- src/inputs.rt:292:1
+same-length-3 : tie.Need-same-length-3
+same-length-3 c = search needs
+
+-- src/inputs.rt:292:1
+returns-2 : tie.Need-returns-2
+returns-2 c = rw (c .before .before .before .before .before .before .before .before .before .before .wide .ensures .0) at (c .before .before .before .before .before .before .fill-seconds .ensures)
+
+pub fill-spec : {M : Type 1} → statement M
+fill-spec =
+    tie.close
+    (tie.spec
+    source-refused-requires
+    returns
+    wide-requires
+    fill-seconds-requires
+    same-length
+    same-length-2
+    same-length-3
+    returns-2)

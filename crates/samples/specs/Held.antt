@@ -1,0 +1,186 @@
+-- Document 01, "A row holds until the next": what each second is handed, of a sample file that comes in chunks.
+-- What a call owes is stated over every rest of the file, so that calls chain.
+use Prim.Native.Nat.{ℕ, zero, suc, _+_, _≤_, _<_, min}
+use mathlib.Core.Path.{_≡_}
+use mathlib.Core.Bool.{Bool, true, false}
+use mathlib.Core.List.{List, [], _∷_, _++_}
+use lib.ListN.{length, drop}
+use lib.Dec.{leb}
+use Rattle.bytes.specs.Bytes.{indexOf}
+use Rattle.rules.specs.declared.samples.Sample.{Sample}
+use Rattle.rules.specs.declared.run.Inputs.{Inputs}
+use Rattle.rules.specs.Numbers.{if_then_else_}
+use Rattle.rules.specs.Bytes.{LF}
+use Rattle.rules.specs.Answers.{Answer, accepted, refused, refusalOf}
+use Rattle.rules.specs.SampleFile.{holding}
+use Rattle.rules.specs.Run.{inputsOf}
+use Rattle.samples.specs.declared.stage.Found.{Found}
+use Rattle.samples.specs.declared.reader.SampleReader.{SampleReader}
+use Rattle.samples.specs.declared.reader.Ending.{Ending}
+use Rattle.samples.specs.declared.inputs.Ahead.{Ahead}
+use Rattle.samples.specs.declared.inputs.InputSource.{InputSource}
+use Rattle.samples.specs.declared.inputs.Filled.{Filled}
+use Rattle.samples.specs.declared.inputs.InForce.{InForce}
+use Rattle.samples.specs.declared.inputs.Begun.{Begun}
+use Rattle.samples.specs.declared.inputs.Reached.{Reached}
+use Rattle.samples.specs.ToCome.{rowFirst}
+use Rattle.samples.specs.Streamed.{yetToCome, isRefused}
+
+-- ---- the rows that are still to come into force
+
+-- the rows that are known to be ahead, and then those that the reader has not handed over yet
+abbrev pub rowsAhead : Ahead → Answer (List Sample) → Answer (List Sample)
+rowsAhead Ahead.Unread others = others
+rowsAhead (Ahead.Next x) others = rowFirst (Found.Row x) others
+rowsAhead (Ahead.LastTwo x y) others = accepted (x ∷ y ∷ [])
+rowsAhead (Ahead.Last x) others = accepted (x ∷ [])
+rowsAhead Ahead.Ended others = accepted []
+rowsAhead (Ahead.Refused r) others = refusalOf r
+
+-- where `rest` is left of the file
+unfoldable pub sourceRows : InputSource → List ℕ → Answer (List Sample)
+sourceRows s rest = rowsAhead (s .ahead) (yetToCome (s .reader) rest)
+
+-- no rest of the file changes what is ahead
+abbrev pub isEnded : Ahead → Bool
+isEnded Ahead.Unread = false
+isEnded (Ahead.Next x) = false
+isEnded (Ahead.LastTwo x y) = true
+isEnded (Ahead.Last x) = true
+isEnded Ahead.Ended = true
+isEnded (Ahead.Refused r) = true
+
+abbrev pub sourceEnded : InputSource → Bool
+sourceEnded s = isEnded (s .ahead)
+
+-- the file was refused, or a line of it was
+abbrev pub refusedAhead : Ahead → Bool → Bool
+refusedAhead Ahead.Unread line = line
+refusedAhead (Ahead.Next x) line = line
+refusedAhead (Ahead.LastTwo x y) line = false
+refusedAhead (Ahead.Last x) line = false
+refusedAhead Ahead.Ended line = false
+refusedAhead (Ahead.Refused r) line = true
+
+unfoldable pub sourceRefused : InputSource → Bool
+sourceRefused s = refusedAhead (s .ahead) (isRefused (s .reader .stage))
+
+-- ---- what each second is handed
+
+-- n seconds from second t on, where the row `now` is in force and `rows` are to come
+unfoldable pub heldFrom : Sample → List Sample → ℕ → ℕ → List Inputs
+heldFrom now rows t zero = []
+heldFrom now rows t (suc n) = inputsOf (holding now rows t) ∷ heldFrom now rows (suc t) n
+
+-- the first n places of three lists
+unfoldable pub inputsIn : ℕ → List ℕ → List ℕ → List ℕ → List Inputs
+inputsIn zero loads solars sheddables = []
+inputsIn (suc n) [] solars sheddables = []
+inputsIn (suc n) (l ∷ loads) [] sheddables = []
+inputsIn (suc n) (l ∷ loads) (s ∷ solars) [] = []
+inputsIn (suc n) (l ∷ loads) (s ∷ solars) (h ∷ sheddables) =
+    record { load = l; solar = s; sheddable = h } ∷ inputsIn n loads solars sheddables
+
+-- the row `now′` in force and the rows `rows′` to come are the last of what was in force and to come, and from second t on they are
+-- held as those were
+pub record Onward (now : Sample) (rows : List Sample) (t : ℕ) (now′ : Sample) (rows′ : List Sample) : Type 0 where
+  pub passed : ℕ
+  pub last : drop passed (now ∷ rows) ≡ now′ ∷ rows′
+  pub held : (n : ℕ) → heldFrom now rows t n ≡ heldFrom now′ rows′ t n
+
+-- ---- the row in force at a second
+
+abbrev pub lastComesIn : Sample → Sample → ℕ → InForce
+lastComesIn now x t =
+    if leb (x .at) t then record { now = x; ahead = Ahead.Ended; unread = false } else record { now = now; ahead = Ahead.Last x; unread = false }
+
+-- of the rows that are known to be ahead
+abbrev pub comesIn : Sample → Ahead → ℕ → InForce
+comesIn now Ahead.Unread t = record { now = now; ahead = Ahead.Unread; unread = true }
+comesIn now (Ahead.Next x) t =
+    if leb (x .at) t then record { now = x; ahead = Ahead.Unread; unread = true } else record { now = now; ahead = Ahead.Next x; unread = false }
+comesIn now (Ahead.LastTwo x y) t =
+    if leb (x .at) t then lastComesIn x y t else record { now = now; ahead = Ahead.LastTwo x y; unread = false }
+comesIn now (Ahead.Last x) t = lastComesIn now x t
+comesIn now Ahead.Ended t = record { now = now; ahead = Ahead.Ended; unread = false }
+comesIn now (Ahead.Refused r) t = record { now = now; ahead = Ahead.Refused r; unread = false }
+
+-- the reader of a line that has begun
+abbrev pub readerAt : Begun → List ℕ → SampleReader
+readerAt b line = record { line = line; len = b .len; stage = b .stage }
+
+-- where second t was reached: the rows to come, and whether the row in force is known to be that second's
+pub record AtSecond (now : Sample) (rows : List Sample) (t : ℕ) (r : Reached) (line left : List ℕ) : Type 0 where
+  pub others : List Sample
+  pub comes : rowsAhead (r .ahead) (yetToCome (readerAt (r .begun) line) left) ≡ accepted others
+  pub onward : Onward now rows t (r .now) others
+  pub force : r .told ≡ true → holding (r .now) others t ≡ r .now
+
+-- what reaching a second owes, with a chunk from a place on
+pub record ReachedRight (b : Begun) (line : List ℕ) (now : Sample) (ahead : Ahead) (t : ℕ) (chunk : List ℕ) (at : ℕ) (r : Reached) : Type 0 where
+  pub rows : (rest : List ℕ) (rows : List Sample) → rowsAhead ahead (yetToCome (readerAt b line) (drop at chunk ++ rest)) ≡ accepted rows
+      → AtSecond now rows t r line (drop (r .next) chunk ++ rest)
+  pub within : r .next ≤ length chunk
+  pub onward : min at (length chunk) ≤ r .next
+  pub further : r .told ≡ false → indexOf LF (drop (r .next) chunk) ≡ length (drop (r .next) chunk)
+  pub wanted : r .told ≡ false → isEnded ahead ≡ false
+  pub ended : isEnded (r .ahead) ≡ isEnded ahead
+
+-- ---- what filling owes
+
+-- where so many seconds were told: the rows to come, and the seconds before and after
+pub record HeldOn (now : Sample) (rows : List Sample) (second : ℕ) (r : Filled) (left loads solars sheddables : List ℕ) : Type 0 where
+  pub others : List Sample
+  pub comes : sourceRows (r .source) left ≡ accepted others
+  pub passed : ℕ
+  pub last : drop passed (now ∷ rows) ≡ r .source .now ∷ others
+  pub told : (n : ℕ) → heldFrom now rows second (r .seconds + n) ≡ inputsIn (r .seconds) loads solars sheddables ++ heldFrom (r .source .now) others (second + r .seconds) n
+
+-- one place for each second: the shortest of the three slices
+abbrev pub placesOf : List ℕ → List ℕ → List ℕ → ℕ
+placesOf loads solars sheddables = min (length loads) (min (length solars) (length sheddables))
+
+-- a slice keeps its length, and what stands from a place on
+pub record KeptFrom (n : ℕ) (before after : List ℕ) : Type 0 where
+  pub size : length after ≡ length before
+  pub rest : drop n after ≡ drop n before
+
+pub record FilledRight (s : InputSource) (second : ℕ) (chunk : List ℕ) (at : ℕ) (loads₀ solars₀ sheddables₀ : List ℕ) (r : Filled) (loads solars sheddables : List ℕ) : Type 0 where
+  -- of every rest of the file that makes it an accepted one
+  pub inputs : (rest : List ℕ) (rows : List Sample) → sourceRows s (drop at chunk ++ rest) ≡ accepted rows
+      → HeldOn (s .now) rows second r (drop (r .next) chunk ++ rest) loads solars sheddables
+  pub within : r .next ≤ length chunk
+  pub onward : min at (length chunk) ≤ r .next
+  pub most : r .seconds ≤ placesOf loads₀ solars₀ sheddables₀
+  -- only the end of the chunk leaves places empty
+  pub short : r .seconds < placesOf loads₀ solars₀ sheddables₀ → r .next ≡ length chunk
+  -- and where the file has ended, only a refusal
+  pub all : sourceEnded s ≡ true → sourceRefused s ≡ false → r .seconds ≡ placesOf loads₀ solars₀ sheddables₀
+  pub none : sourceRefused s ≡ true → r .seconds ≡ 0
+  pub ended : sourceEnded (r .source) ≡ sourceEnded s
+  pub keptLoads : KeptFrom (r .seconds) loads₀ loads
+  pub keptSolars : KeptFrom (r .seconds) solars₀ solars
+  pub keptSheddables : KeptFrom (r .seconds) sheddables₀ sheddables
+
+-- ---- the end of the file
+
+-- after what is ahead there is what the reader's last line gave
+abbrev pub aheadAtEnd : Ahead → Ending → Ahead
+aheadAtEnd Ahead.Unread (Ending.LastRow y) = Ahead.Last y
+aheadAtEnd Ahead.Unread Ending.NoRow = Ahead.Ended
+aheadAtEnd Ahead.Unread (Ending.Refused r) = Ahead.Refused r
+aheadAtEnd (Ahead.Next x) (Ending.LastRow y) = Ahead.LastTwo x y
+aheadAtEnd (Ahead.Next x) Ending.NoRow = Ahead.Last x
+aheadAtEnd (Ahead.Next x) (Ending.Refused r) = Ahead.Refused r
+aheadAtEnd (Ahead.LastTwo x y) e = Ahead.LastTwo x y
+aheadAtEnd (Ahead.Last x) e = Ahead.Last x
+aheadAtEnd Ahead.Ended e = Ahead.Ended
+aheadAtEnd (Ahead.Refused r) e = Ahead.Refused r
+
+pub record EndedRight (s r : InputSource) : Type 0 where
+  -- no byte was left, and whatever is said to follow changes nothing
+  pub rows : (rest : List ℕ) → sourceRows r rest ≡ sourceRows s []
+  pub held : r .now ≡ s .now
+  pub ended : sourceEnded r ≡ true
+  -- refused only where the file is
+  pub right : (rows : List Sample) → sourceRows s [] ≡ accepted rows → sourceRefused r ≡ false

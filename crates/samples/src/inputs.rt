@@ -1,0 +1,348 @@
+// What each second of a run is handed, of a sample file that comes in chunks of any length: "A row holds until the next."
+ghost use mathlib.Core.Path.{_≡_};
+ghost use Prim.Native.Nat.{ℕ, _≤_, min};
+ghost use mathlib.Core.Bool.{true, false};
+ghost use mathlib.Core.List.{List, []};
+ghost use lib.ListN.{length};
+ghost use Rattle.rules.specs.SampleFile.{sampleFile, beforeAll};
+ghost use Rattle.samples.specs.ToCome.{placed};
+ghost use Rattle.samples.specs.Held.{sourceRows, sourceRefused, lastComesIn, comesIn, aheadAtEnd, readerAt, ReachedRight, FilledRight, EndedRight};
+use crate::check::line_refused;
+use crate::reader::Ending;
+use crate::reader::SampleReader;
+use crate::reader::end;
+use crate::reader::kept;
+use crate::reader::lesser;
+use crate::reader::next_row;
+use crate::reader::reader;
+use crate::stage::Found;
+use crate::stage::Stage;
+use rules::answers::Refusal;
+use rules::samples::Sample;
+
+// What is known of the rows after the one in force.
+pub enum Ahead {
+    // the next one has to be read before a second can be worked
+    Unread,
+    // the next one is this, and the file goes on
+    Next(Sample),
+    // these two are the last
+    LastTwo(Sample, Sample),
+    // this is the last
+    Last(Sample),
+    // there is no further row
+    Ended,
+    // the file was refused after all, so it is not the one that was checked
+    Refused(Refusal),
+}
+
+// The row in force, and the rows after it.
+pub struct InputSource {
+    pub(crate) reader: SampleReader,
+    pub(crate) now: Sample,
+    pub(crate) ahead: Ahead,
+}
+
+// So many seconds were told; the chunk is to be read on at `next`.
+pub struct Filled {
+    pub source: InputSource,
+    pub next: usize,
+    pub seconds: usize,
+}
+
+// The row in force at a second, of the rows that are known; `unread` where the next one has to be read to tell.
+struct InForce {
+    now: Sample,
+    ahead: Ahead,
+    unread: bool,
+}
+
+// What the lines so far came to, and how many bytes of a line have begun.
+struct Begun {
+    stage: Stage,
+    len: usize,
+}
+
+// The row in force at a second; `told` is false where the chunk ends before that is known.
+struct Reached {
+    begun: Begun,
+    now: Sample,
+    ahead: Ahead,
+    next: usize,
+    told: bool,
+}
+
+// A time is cast in a function of its own, so that a sum with a place of a slice cannot wrap.
+fn wide(time: u32) -> usize
+    ensures { λ r. ⌜ (r ≡ time) × (r ≤ 4294967295) ⌝ }
+{
+    time as usize
+}
+
+// The last row, in force once its second has come.
+fn last_comes_in(held: Sample, last: Sample, second: usize) -> InForce
+    ensures { λ r. ⌜ r ≡ lastComesIn held last second ⌝ }
+{
+    if wide(last.at) <= second {
+        return InForce {
+            now: last,
+            ahead: Ahead::Ended,
+            unread: false,
+        };
+    }
+    InForce {
+        now: held,
+        ahead: Ahead::Last(last),
+        unread: false,
+    }
+}
+
+// Of the rows that are known, the one in force at a second, after the row `held`.
+fn comes_in(held: Sample, ahead: Ahead, second: usize) -> InForce
+    ensures { λ r. ⌜ r ≡ comesIn held ahead second ⌝ }
+{
+    match ahead {
+        Ahead::Unread => InForce {
+            now: held,
+            ahead,
+            unread: true,
+        },
+        Ahead::Next(row) => {
+            if wide(row.at) <= second {
+                return InForce {
+                    now: row,
+                    ahead: Ahead::Unread,
+                    unread: true,
+                };
+            }
+            InForce {
+                now: held,
+                ahead,
+                unread: false,
+            }
+        }
+        Ahead::LastTwo(next, last) => {
+            if wide(next.at) <= second {
+                return last_comes_in(next, last, second);
+            }
+            InForce {
+                now: held,
+                ahead,
+                unread: false,
+            }
+        }
+        Ahead::Last(last) => last_comes_in(held, last, second),
+        Ahead::Ended => InForce {
+            now: held,
+            ahead,
+            unread: false,
+        },
+        Ahead::Refused(_) => InForce {
+            now: held,
+            ahead,
+            unread: false,
+        },
+    }
+}
+
+// The row in force at a second, with as many rows of the chunk as it takes.
+fn reach(
+    begun: Begun,
+    line: &[u8; 512],
+    held: Sample,
+    ahead: Ahead,
+    second: usize,
+    chunk: &[u8],
+    at: usize,
+) -> Reached
+    ensures { λ r. ⌜ ReachedRight begun (now (line .entry)) held ahead second (now (chunk .entry)) at r ⌝ }
+{
+    let mut stage = begun.stage;
+    let mut len = begun.len;
+    let mut next = lesser(at, chunk.len());
+    let mut known = comes_in(held, ahead, second);
+    while known.unread {
+        let further = next_row(stage, line, len, chunk, next);
+        stage = further.stage;
+        len = further.len;
+        next = further.next;
+        let row = known.now;
+        let found = further.found;
+        let Found::Row(sample) = found else {
+            return Reached {
+                begun: Begun { stage, len },
+                now: row,
+                ahead: Ahead::Unread,
+                next,
+                told: false,
+            };
+        };
+        known = comes_in(row, Ahead::Next(sample), second);
+    }
+    let row = known.now;
+    let rows = known.ahead;
+    Reached {
+        begun: Begun { stage, len },
+        now: row,
+        ahead: rows,
+        next,
+        told: true,
+    }
+}
+
+// From the file's first byte.
+pub fn inputs() -> InputSource
+    ensures { λ r. ⌜ ((rest : List ℕ) → sourceRows r rest ≡ placed (sampleFile rest)) ⌝ }
+    ensures { λ r. ⌜ (r .now ≡ beforeAll) × (r .ahead ≡ Ahead.Unread) ⌝ }
+{
+    InputSource {
+        reader: reader(),
+        now: Sample {
+            at: 0,
+            load: 0,
+            solar: 0,
+            sheddable: 0,
+        },
+        ahead: Ahead::Unread,
+    }
+}
+
+// Whether the file was refused, so that it is not the one that was checked.
+pub fn source_refused(source: InputSource) -> bool
+    ensures { λ r. ⌜ r ≡ sourceRefused source ⌝ }
+{
+    let reader = source.reader;
+    let stage = reader.stage;
+    let ahead = source.ahead;
+    match ahead {
+        Ahead::Unread => line_refused(stage),
+        Ahead::Next(_) => line_refused(stage),
+        Ahead::LastTwo(_, _) => false,
+        Ahead::Last(_) => false,
+        Ahead::Ended => false,
+        Ahead::Refused(_) => true,
+    }
+}
+
+// The reader of a line that has begun.
+fn reader_at(begun: Begun, line: [u8; 512]) -> SampleReader
+    ensures { λ r. ⌜ r ≡ readerAt begun line ⌝ }
+{
+    let stage = begun.stage;
+    SampleReader {
+        line,
+        len: begun.len,
+        stage,
+    }
+}
+
+// The seconds of a file that is not refused; `first` is the first of them.
+fn fill_seconds(
+    source: InputSource,
+    first: usize,
+    chunk: &[u8],
+    at: usize,
+    loads: &mut [u32],
+    solars: &mut [u32],
+    sheddables: &mut [u32],
+) -> Filled
+    requires { ⌜ (first ≤ 4294967295) × (sourceRefused source ≡ false) ⌝ }
+    ensures { λ r. ⌜ FilledRight source first (now (chunk .entry)) at (now (loads .entry)) (now (solars .entry)) (now (sheddables .entry)) r (now (loads .exit)) (now (solars .exit)) (now (sheddables .exit)) ⌝ }
+{
+    let places = lesser(loads.len(), lesser(solars.len(), sheddables.len()));
+    let reader = source.reader;
+    let line = reader.line;
+    let stage = reader.stage;
+    let mut begun = Begun {
+        stage,
+        len: reader.len,
+    };
+    let mut now = source.now;
+    let mut ahead = source.ahead;
+    let mut next = lesser(at, chunk.len());
+    let mut i = 0;
+    while i < places {
+        let reached = reach(begun, &line, now, ahead, first + i, chunk, next);
+        begun = reached.begun;
+        now = reached.now;
+        ahead = reached.ahead;
+        next = reached.next;
+        if !reached.told {
+            let reader = kept(reader_at(begun, line), &chunk[next..]);
+            return Filled {
+                source: InputSource { reader, now, ahead },
+                next: chunk.len(),
+                seconds: i,
+            };
+        }
+        loads[i] = now.load;
+        solars[i] = now.solar;
+        sheddables[i] = now.sheddable;
+        i += 1;
+    }
+    let reader = reader_at(begun, line);
+    Filled {
+        source: InputSource { reader, now, ahead },
+        next,
+        seconds: i,
+    }
+}
+
+// The inputs of the seconds from `second` on, one in each place of the three slices, as far as the chunk from `at` on tells them.
+pub fn fill(
+    source: InputSource,
+    second: u32,
+    chunk: &[u8],
+    at: usize,
+    loads: &mut [u32],
+    solars: &mut [u32],
+    sheddables: &mut [u32],
+) -> Filled
+    ensures { λ r. ⌜ FilledRight source second (now (chunk .entry)) at (now (loads .entry)) (now (solars .entry)) (now (sheddables .entry)) r (now (loads .exit)) (now (solars .exit)) (now (sheddables .exit)) ⌝ }
+{
+    if source_refused(source) {
+        return Filled {
+            source,
+            next: chunk.len(),
+            seconds: 0,
+        };
+    }
+    let first = wide(second);
+    fill_seconds(source, first, chunk, at, loads, solars, sheddables)
+}
+
+// What is ahead at the end of the file, where the reader's last line gave this.
+fn ahead_at_end(ahead: Ahead, ending: Ending) -> Ahead
+    ensures { λ r. ⌜ r ≡ aheadAtEnd ahead ending ⌝ }
+{
+    match ahead {
+        Ahead::Unread => match ending {
+            Ending::LastRow(last) => Ahead::Last(last),
+            Ending::NoRow => Ahead::Ended,
+            Ending::Refused(refusal) => Ahead::Refused(refusal),
+        },
+        Ahead::Next(row) => match ending {
+            Ending::LastRow(last) => Ahead::LastTwo(row, last),
+            Ending::NoRow => Ahead::Last(row),
+            Ending::Refused(refusal) => Ahead::Refused(refusal),
+        },
+        Ahead::LastTwo(_, _) => ahead,
+        Ahead::Last(_) => ahead,
+        Ahead::Ended => ahead,
+        Ahead::Refused(_) => ahead,
+    }
+}
+
+// The end of the file.
+pub fn end_inputs(source: InputSource) -> InputSource
+    ensures { λ r. ⌜ EndedRight source r ⌝ }
+{
+    let reader = source.reader;
+    let now = source.now;
+    let ahead = source.ahead;
+    InputSource {
+        reader,
+        now,
+        ahead: ahead_at_end(ahead, end(reader)),
+    }
+}

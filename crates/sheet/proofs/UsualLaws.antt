@@ -1,0 +1,379 @@
+-- The usual row: digits and powers taken from a place on, and the four cells of a line. Assumes nothing.
+use Prim.Native.Nat.{ℕ, zero, suc, _+_, _-_, _*_, _%_, _^_, _≤_, _<_}
+use mathlib.Core.Path.{_≡_, refl, sym, ap, subst, _∙_}
+use mathlib.Core.Bool.{Bool, true, false, _&&_, _||_}
+use mathlib.Core.List.{List, [], _∷_, _++_, append-assoc}
+use native.Mathlib.Omega.{arith}
+use native.Mathlib.Nat.{mod-eq-of-lt}
+use native.Mathlib.Numerals.{add-one}
+use lib.Dec.{leb, ltb, eqb}
+use lib.ListN.{length, take, drop, getD, length-append, length-take, length-drop, take-append-drop}
+use lib.Seq.{take-suc, getD-drop, drop-drop, drop-cons}
+use borrow.Author.Tests.{le-leb, leb-true, ltb-true, ltb-false, eqb-false, ne-eqb, eq-eqb}
+use Rattle.bytes.specs.Bytes.{indexAfter, indexOf}
+use Rattle.rules.specs.declared.samples.Sample.{Sample}
+use Rattle.rules.specs.Numbers.{if_then_else_, within, every, tab}
+use Rattle.rules.specs.Bytes.{LF, CR, comma, point, digit0, isDigit, allDigits, digits, valueFrom, value, inFront, parts}
+use Rattle.rules.specs.Lines.{withoutCR, ended}
+use Rattle.rules.specs.Answers.{Answer, accepted, refused, need, _>>=_, _>>_}
+use Rattle.rules.specs.SampleFile.{sampleSheet, limited, timeCell, powerForm, powerValue, powerCell, cell, valueUnder, agreeing, sampleOf}
+use Rattle.rules.proofs.Tests.{never, both, and-true, within-fact, fact-within, every-append}
+use Rattle.sheet.specs.declared.headings.Columns.{Columns}
+use Rattle.sheet.specs.declared.usual.DigitRun.{DigitRun}
+use Rattle.sheet.specs.declared.usual.PowerRun.{PowerRun}
+use Rattle.sheet.specs.Rows.{rowIn, rowOfValues, rowOfCells}
+use Rattle.sheet.specs.declared.usual.Usual.{Usual}
+use Rattle.sheet.specs.Usual.{Part, DigitsTaken, PowerTaken, PowersNamed, UsualRight, usualValues, usualOf}
+use Rattle.sheet.specs.Headings.{columnsOf}
+use Rattle.sheet.proofs.PartsAt.{part-last}
+use Rattle.sheet.proofs.DigitLaws.{from-below, below-most}
+use Rattle.sheet.proofs.RowLaws.{one-by-one}
+use Rattle.sheet.proofs.RowCells.{four}
+
+-- ---- bytes that are not below n
+
+abbrev pub Least : ℕ → List ℕ → Type 0
+Least n l = every (λ x. leb n x) l ≡ true
+
+-- no byte below n stands among them
+least-index : (n c : ℕ) (l : List ℕ) → c < n → Least n l → indexOf c l ≡ length l
+unfolding every indexOf indexAfter
+least-index n c [] h a = refl
+least-index n c (x ∷ l) h a =
+    let t = both (leb n x) (every (λ x. leb n x) l) a in
+    let k = leb-true n x (t .0) in
+    rw (ne-eqb x c (λ e. omega (arith, k, e))) (ap suc (least-index n c l h (t .1)))
+
+least-down : (n m : ℕ) (l : List ℕ) → n ≤ m → Least m l → Least n l
+unfolding every
+least-down n m [] h a = refl
+least-down n m (x ∷ l) h a =
+    let t = both (leb m x) (every (λ x. leb m x) l) a in
+    let k = leb-true m x (t .0) in
+    and-true (le-leb n x (omega arith)) (least-down n m l h (t .1))
+
+least-one : (n x : ℕ) (l : List ℕ) → n ≤ x → Least n l → Least n (x ∷ l)
+unfolding every
+least-one n x l h a = and-true (le-leb n x h) a
+
+least-crless : (l : List ℕ) → Least 44 l → withoutCR l ≡ l
+unfolding withoutCR every
+least-crless [] a = refl
+least-crless (x ∷ []) a = let k = leb-true 44 x (both (leb 44 x) true a .0) in rw (ne-eqb x CR (λ e. omega (arith, k, e)))
+least-crless (x ∷ y ∷ r) a = ap (λ (l : List ℕ). x ∷ l) (least-crless (y ∷ r) (both (leb 44 x) (every (λ x. leb 44 x) (y ∷ r)) a .1))
+
+digits-least : (l : List ℕ) → allDigits l ≡ true → Least 48 l
+unfolding every allDigits
+digits-least [] a = refl
+digits-least (x ∷ l) a =
+    let t = both (isDigit x) (allDigits l) a in
+    let d = within-fact digit0 (digit0 + 9) x (t .0) in
+    and-true (le-leb 48 x (d .0)) (digits-least l (t .1))
+
+-- ---- one digit more
+
+all-more : (l : List ℕ) (x : ℕ) → allDigits l ≡ true → isDigit x ≡ true → allDigits (l ++ (x ∷ [])) ≡ true
+unfolding allDigits
+all-more [] x a d = and-true d refl
+all-more (y ∷ l) x a d = let t = both (isDigit y) (allDigits l) a in and-true (t .0) (all-more l x (t .1) d)
+
+value-more : (l : List ℕ) (v x : ℕ) → valueFrom v (l ++ (x ∷ [])) ≡ valueFrom v l * 10 + (x - 48)
+unfolding valueFrom
+value-more [] v x = refl
+value-more (y ∷ l) v x = value-more l (v * 10 + (y - digit0)) x
+
+-- from a place up to another
+abbrev pub upTo : List ℕ → ℕ → ℕ → List ℕ
+upTo s at i = take (i - at) (drop at s)
+
+-- where the loop is
+pub record Taking (s : List ℕ) (at most before i number : ℕ) : Type 0 where
+  pub from : at ≤ i
+  pub to : i ≤ at + most
+  pub within : at + most ≤ length s
+  pub all : allDigits (upTo s at i) ≡ true
+  pub is : number ≡ valueFrom before (upTo s at i)
+
+pub taking-start : (s : List ℕ) (at most before : ℕ) → at + most ≤ length s → Taking s at most before at before
+unfolding allDigits valueFrom
+taking-start s at most before h =
+    let z : at - at ≡ 0 = omega arith in
+    record { from = omega arith; to = omega arith; within = h; all = rw z; is = rw z }
+
+module _ (s : List ℕ) (at most before i number : ℕ) (g : Taking s at most before i number) where
+  pub taking-more : i < at + most → 48 ≤ getD s i 0 → getD s i 0 ≤ 57 → Taking s at most before (i + 1) (number * 10 + (getD s i 0 - 48))
+  taking-more h low high =
+      let e : i + 1 - at ≡ suc (i - at) = omega (arith, g .from) in
+      let p : at + (i - at) ≡ i = omega (arith, g .from) in
+      let k : i - at < length (drop at s) = omega (arith, length-drop at s, g .within, g .from) in
+      let more : upTo s at (i + 1) ≡ upTo s at i ++ (getD s i 0 ∷ []) =
+      ap (λ (n : ℕ). take n (drop at s)) e ∙ take-suc (drop at s) (i - at) 0 k ∙ ap (λ (x : ℕ). upTo s at i ++ (x ∷ [])) (getD-drop at s (i - at) 0 ∙ ap (λ (n : ℕ). getD s n 0) p) in
+      record {
+        from = omega (arith, g .from);
+        to = omega arith;
+        within = g .within;
+        all = rw more (all-more (upTo s at i) (getD s i 0) (g .all) (fact-within 48 57 (getD s i 0) low high));
+        is = rw more (ap (λ (n : ℕ). n * 10 + (getD s i 0 - 48)) (g .is) ∙ sym (value-more (upTo s at i) before (getD s i 0)));
+      }
+
+  pub taken : DigitsTaken s at most before (record { end = i; number = number })
+  taken =
+      let p : at + (i - at) ≡ i = omega (arith, g .from) in
+      let n : length (upTo s at i) ≡ i - at = length-take (i - at) (drop at s) ∙ (let m = length-drop at s in let w = g .within in omega (arith, m, w, g .from, g .to)) in
+      record {
+        taken = upTo s at i;
+        part = record { is = sym (take-append-drop (i - at) (drop at s)) ∙ ap (λ (l : List ℕ). upTo s at i ++ l) (drop-drop (i - at) at s ∙ ap (λ (k : ℕ). drop k s) p); size = omega (arith, n, p) };
+        few = omega (arith, n, g .to, g .from);
+        all = g .all;
+        number = g .is;
+      }
+
+-- ---- parts of a text, one after the other
+
+-- a part, a byte, and a part
+pub part-then : (s : List ℕ) (at e end x : ℕ) (a b : List ℕ) → Part s at e a → e < length s → getD s e 0 ≡ x → Part s (e + 1) end b → Part s at end (a ++ x ∷ b)
+part-then s at e end x a b p h is q =
+    let d : drop e s ≡ x ∷ (b ++ drop end s) = drop-cons s e 0 h ∙ ap (λ (y : ℕ). y ∷ drop (suc e) s) is ∙ ap (λ (n : ℕ). x ∷ drop n s) (sym (add-one e)) ∙ ap (λ (l : List ℕ). x ∷ l) (q .is) in
+    record {
+      is = p .is ∙ ap (λ (l : List ℕ). a ++ l) d ∙ sym (append-assoc a (x ∷ b) (drop end s));
+      size = omega (arith, length-append a (x ∷ b), p .size, q .size);
+    }
+
+parts-first : (c : ℕ) (a b : List ℕ) → indexOf c a ≡ length a → parts c (a ++ c ∷ b) ≡ a ∷ parts c b
+unfolding parts indexOf indexAfter
+parts-first c [] b h = rw (eq-eqb c c refl)
+parts-first c (x ∷ a) b h = go (eqb x c) (parts-first c a b) h
+  where
+    go : (q : Bool) → (indexOf c a ≡ length a → parts c (a ++ c ∷ b) ≡ a ∷ parts c b) → indexAfter q (indexOf c a) ≡ suc (length a)
+        → (if q then [] ∷ parts c (a ++ c ∷ b) else inFront x (parts c (a ++ c ∷ b))) ≡ (x ∷ a) ∷ parts c b
+    go true rest h = absurd (omega arith)
+    go false rest h = rw (rest (omega arith))
+
+-- ---- a power
+
+accepts : (line limit : ℕ) (form : Bool) (v w : ℕ) → form ≡ true → v ≡ w → w ≤ limit → limited line limit form v ≡ accepted w
+accepts line limit form v w f e h = rw (f, e, le-leb w limit h)
+
+some-digits : (n : ℕ) (l : List ℕ) → 0 < length l → length l ≤ n → allDigits l ≡ true → digits n l ≡ true
+unfolding digits
+some-digits n l h k a = and-true (fact-within 1 n (length l) h k) a
+
+pub whole-power : (line : ℕ) (w : List ℕ) (v : ℕ) → 0 < length w → length w ≤ 6 → allDigits w ≡ true → v ≡ value w → v * 1000 ≤ 50000000 → powerCell line 50000000 w ≡ accepted (v * 1000)
+unfolding powerCell powerForm powerValue valueFrom
+whole-power line w v h k a e l =
+    let p = part-last point w (least-index 48 46 w (omega arith) (digits-least w a)) in
+    let x : value w * 1000 + 0 ≡ v * 1000 = omega (arith, e) in
+    rw p (accepts line 50000000 (digits 6 w) (value w * 1000 + 0) (v * 1000) (some-digits 6 w h k a) x l)
+
+decimal-watts : (v n : ℕ) (f : List ℕ) → 0 < length f → length f ≤ 3 → n ≡ valueFrom v f → v * 1000 + value f * 10 ^ (3 - length f) ≡ n * 10 ^ (3 - length f)
+unfolding valueFrom
+decimal-watts v n [] h k e = absurd (omega arith)
+decimal-watts v n (x ∷ []) h k e = omega (arith, e)
+decimal-watts v n (x ∷ y ∷ []) h k e = omega (arith, e)
+decimal-watts v n (x ∷ y ∷ z ∷ []) h k e = omega (arith, e)
+decimal-watts v n (x ∷ y ∷ z ∷ q ∷ f) h k e = absurd (omega arith)
+
+pub decimal-power : (line : ℕ) (w f : List ℕ) (v n : ℕ) → 0 < length w → length w ≤ 6 → allDigits w ≡ true → v ≡ value w → 0 < length f → length f ≤ 3 → allDigits f ≡ true → n ≡ valueFrom v f
+    → n * 10 ^ (3 - length f) ≤ 50000000 → powerCell line 50000000 (w ++ point ∷ f) ≡ accepted (n * 10 ^ (3 - length f))
+unfolding powerCell powerForm powerValue
+decimal-power line w f v n h k a e h′ k′ a′ e′ l =
+    let p : parts point (w ++ point ∷ f) ≡ w ∷ f ∷ [] = parts-first point w f (least-index 48 46 w (omega arith) (digits-least w a)) ∙ ap (λ (l : List (List ℕ)). w ∷ l) (part-last point f (least-index 48 46 f (omega arith) (digits-least f a′))) in
+    let x = ap (λ (u : ℕ). u * 1000 + value f * 10 ^ (3 - length f)) (sym e) ∙ decimal-watts v n f h′ k′ e′ in
+    rw p (accepts line 50000000 (digits 6 w && digits 3 f) _ (n * 10 ^ (3 - length f)) (and-true (some-digits 6 w h k a) (some-digits 3 f h′ k′ a′)) x l)
+
+-- ---- the row
+
+pub time-cell : (line : ℕ) (a : List ℕ) (v : ℕ) → 0 < length a → length a ≤ 9 → allDigits a ≡ true → v ≡ value a → v ≤ 316223999 → cell line (sampleSheet .limits) 0 a ≡ accepted v
+unfolding cell timeCell sampleSheet
+time-cell line a v h k d e l = accepts line 316223999 (digits 9 a) (value a) v (some-digits 9 a h k d) (sym e) l
+
+under-power : (line name : ℕ) (c : List ℕ) (v : ℕ) → (0 < name) × (name ≤ 3) → powerCell line 50000000 c ≡ accepted v → cell line (sampleSheet .limits) name c ≡ accepted v
+unfolding cell sampleSheet
+under-power line zero c v h e = absurd (omega (arith, h .0))
+under-power line (suc zero) c v h e = e
+under-power line (suc (suc zero)) c v h e = e
+under-power line (suc (suc (suc zero))) c v h e = e
+under-power line (suc (suc (suc (suc name)))) c v h e = absurd (omega (arith, h .1))
+
+abbrev pub lineOf : List ℕ → List ℕ → List ℕ → List ℕ → List ℕ
+lineOf a b c d = ((a ++ comma ∷ b) ++ comma ∷ c) ++ comma ∷ d
+
+module _ (columns : Columns) (named : PowersNamed columns) (a b c d : List ℕ) (at x y z : ℕ)
+    (clean-a : Least 48 a) (clean-b : Least 46 b) (clean-c : Least 46 c) (clean-d : Least 46 d) where
+  line-parts : parts comma (lineOf a b c d) ≡ a ∷ b ∷ c ∷ d ∷ []
+  line-parts =
+      let split : lineOf a b c d ≡ a ++ comma ∷ (b ++ comma ∷ (c ++ comma ∷ d)) =
+      append-assoc (a ++ comma ∷ b) (comma ∷ c) (comma ∷ d) ∙ append-assoc a (comma ∷ b) (comma ∷ (c ++ comma ∷ d)) in
+      ap (parts comma) split
+      ∙ parts-first comma a _ (least-index 48 44 a (omega arith) clean-a)
+      ∙ ap (λ (l : List (List ℕ)). a ∷ l) (parts-first comma b _ (least-index 46 44 b (omega arith) clean-b)
+      ∙ ap (λ (l : List (List ℕ)). b ∷ l) (parts-first comma c _ (least-index 46 44 c (omega arith) clean-c)
+      ∙ ap (λ (l : List (List ℕ)). c ∷ l) (part-last comma d (least-index 46 44 d (omega arith) clean-d))))
+
+  least-line : Least 44 (lineOf a b c d)
+  least-line =
+      let one : (l m : List ℕ) → Least 44 l → Least 46 m → Least 44 (l ++ comma ∷ m) = λ l m p q. every-append (λ x. leb 44 x) l (comma ∷ m) p (least-one 44 comma m (omega arith) (least-down 44 46 m (omega arith) q)) in
+      one ((a ++ comma ∷ b) ++ comma ∷ c) d (one (a ++ comma ∷ b) c (one a b (least-down 44 48 a (omega arith) clean-a) clean-b) clean-c) clean-d
+
+  pub line-whole : indexOf LF (lineOf a b c d) ≡ length (lineOf a b c d)
+  line-whole = least-index 44 10 (lineOf a b c d) (omega arith) least-line
+
+  pub line-row : (sample : Sample) (line : ℕ) → length (lineOf a b c d) ≤ 512
+      → cell line (sampleSheet .limits) 0 a ≡ accepted at → powerCell line 50000000 b ≡ accepted x → powerCell line 50000000 c ≡ accepted y → powerCell line 50000000 d ≡ accepted z
+      → accepted sample ≡ rowOfValues columns line (at ∷ x ∷ y ∷ z ∷ []) → accepted sample ≡ rowIn columns line (ended (lineOf a b c d))
+  line-row sample line short p q r t e =
+      let cells : rowOfCells columns line (a ∷ b ∷ c ∷ d ∷ []) ≡ rowOfValues columns line (at ∷ x ∷ y ∷ z ∷ []) =
+      rw (one-by-one columns line a b c d, p, under-power line (columns .second) b x (named .second) q, under-power line (columns .third) c y (named .third) r, under-power line (columns .fourth) d z (named .fourth) t) in
+      let whole = four columns line (length (lineOf a b c d)) (lineOf a b c d) short a b c d line-parts in
+      e ∙ sym cells ∙ whole ∙ ap (λ (text : List ℕ). rowIn columns line (record { size = length (lineOf a b c d); text = text })) (sym (least-crless (lineOf a b c d) least-line))
+
+-- ---- what the code asks
+
+pub taking-below : (s : List ℕ) (at most before i number : ℕ) → Taking s at most before i number → most ≤ 9 → before < 10 ^ (9 - most) → i < at + most → number < 10 ^ 8
+taking-below s at most before i number g m b h =
+    let n : length (upTo s at i) ≡ i - at = length-take (i - at) (drop at s) ∙ (let k = length-drop at s in let w = g .within in omega (arith, k, w, g .from, g .to)) in
+    let e : 9 - most + length (upTo s at i) ≤ 8 = omega (arith, n, g .from) in
+    rw (g .is) (below-most (9 - most + length (upTo s at i)) 8 (valueFrom before (upTo s at i)) e (from-below (upTo s at i) (9 - most) before b (g .all)))
+
+pub taken-below : (s : List ℕ) (at most before : ℕ) (r : DigitRun) (n m : ℕ) → (t : DigitsTaken s at most before r) → before < 10 ^ n → n + length (t .taken) ≤ m → r .number < 10 ^ m
+taken-below s at most before r n m t b h = rw (t .number) (below-most (n + length (t .taken)) m (valueFrom before (t .taken)) h (from-below (t .taken) n before b (t .all)))
+
+pub named : (second third fourth : ℕ) (columns : Columns) → columns ≡ record { second = second; third = third; fourth = fourth }
+    → ltb 0 second && leb second 3 && ltb 0 third && leb third 3 && ltb 0 fourth && leb fourth 3 ≡ true → PowersNamed columns
+named second third fourth columns is e =
+    let p = both _ (leb fourth 3) e in
+    let q = both _ (ltb 0 fourth) (p .0) in
+    let r = both _ (leb third 3) (q .0) in
+    let t = both _ (ltb 0 third) (r .0) in
+    let u = both (ltb 0 second) (leb second 3) (t .0) in
+    subst PowersNamed (sym is) (record { second = (ltb-true 0 second (u .0), leb-true second 3 (u .1)); third = (ltb-true 0 third (t .1), leb-true third 3 (r .1)); fourth = (ltb-true 0 fourth (q .1), leb-true fourth 3 (p .1)) })
+
+-- the line says only where a refusal is
+pub any-line : (columns : Columns) (vs : List ℕ) (x : Sample) (line line′ : ℕ) → accepted x ≡ rowOfValues columns line vs → accepted x ≡ rowOfValues columns line′ vs
+unfolding rowOfValues
+any-line columns vs x line line′ e = go (tab 4 (λ (name : ℕ). valueUnder name (columnsOf columns) vs)) (sampleSheet .agree (tab 4 (λ (name : ℕ). valueUnder name (columnsOf columns) vs))) e
+  where
+    go : (values : List ℕ) (b : Bool) → accepted x ≡ ((need b 20 line >> accepted values) >>= λ (values : List ℕ). accepted (sampleOf values)) → accepted x ≡ ((need b 20 line′ >> accepted values) >>= λ (values : List ℕ). accepted (sampleOf values))
+    go values true e = e
+    go values false e = absurd (let z : _≡_ {A = ℕ} 0 1 = cc in omega arith)
+
+watts-below : (k number worth : ℕ) → k ≤ 3 → number < 10 ^ (6 + k) → worth ≡ 10 ^ (3 - k) → number * worth < 1000000000
+watts-below zero number worth h l e = rw e (omega arith)
+watts-below (suc zero) number worth h l e = rw e (omega arith)
+watts-below (suc (suc zero)) number worth h l e = rw e (omega arith)
+watts-below (suc (suc (suc zero))) number worth h l e = rw e (omega arith)
+watts-below (suc (suc (suc (suc k)))) number worth h l e = absurd (omega arith)
+
+module _ (s : List ℕ) (at : ℕ) (r : DigitRun) (t : DigitsTaken s at 6 0 r) where
+  pub whole-below : r .number < 10 ^ 6
+  whole-below = let z : 0 + length (t .taken) ≤ 6 = omega (arith, t .few) in taken-below s at 6 0 r 0 6 t (omega arith) z
+
+  pub whole-end : r .end ≤ at + 6
+  whole-end = omega (arith, t .few, t .part .size)
+
+  pub whole-taken : (u : Bool) → ltb at (r .end) && leb (r .number * 1000) 50000000 ≡ true → PowerTaken s at (record { end = r .end; watts = r .number * 1000; usual = u })
+  whole-taken u e =
+      let p = both (ltb at (r .end)) (leb (r .number * 1000) 50000000) e in
+      let some : at < r .end = ltb-true at (r .end) (p .0) in
+      let h : 0 < length (t .taken) = omega (arith, t .part .size) in
+      record {
+        cell = t .taken;
+        part = t .part;
+        most = omega (arith, t .few);
+        clean = least-down 46 48 (t .taken) (omega arith) (digits-least (t .taken) (t .all));
+        value = λ line. whole-power line (t .taken) (r .number) h (t .few) (t .all) (t .number) (leb-true (r .number * 1000) 50000000 (p .1));
+      }
+
+  module _ (q : DigitRun) (f : DigitsTaken s (r .end + 1) 3 (r .number) q) (worth : ℕ) (w : worth ≡ 10 ^ (3 - (q .end - (r .end + 1)))) where
+    decimals : q .end - (r .end + 1) ≡ length (f .taken)
+    decimals = omega (arith, f .part .size)
+
+    worth-is : worth ≡ 10 ^ (3 - length (f .taken))
+    worth-is = w ∙ ap (λ (n : ℕ). 10 ^ (3 - n)) decimals
+
+    pub decimals-below : q .number * worth < 1000000000
+    decimals-below = let z : 6 + length (f .taken) ≤ 6 + length (f .taken) = omega arith in watts-below (length (f .taken)) (q .number) worth (f .few) (taken-below s (r .end + 1) 3 (r .number) q 6 (6 + length (f .taken)) f whole-below z) worth-is
+
+    pub decimal-taken : (u : Bool) → r .end < length s → getD s (r .end) 0 ≡ 46 → ltb at (r .end) && ltb (r .end + 1) (q .end) && leb (q .number * worth) 50000000 ≡ true
+        → PowerTaken s at (record { end = q .end; watts = q .number * worth; usual = u })
+    decimal-taken u inside is e =
+        let p = both (ltb at (r .end) && ltb (r .end + 1) (q .end)) (leb (q .number * worth) 50000000) e in
+        let o = both (ltb at (r .end)) (ltb (r .end + 1) (q .end)) (p .0) in
+        let some : at < r .end = ltb-true at (r .end) (o .0) in
+        let more : r .end + 1 < q .end = ltb-true (r .end + 1) (q .end) (o .1) in
+        let h : 0 < length (t .taken) = omega (arith, t .part .size) in
+        let k : 0 < length (f .taken) = omega (arith, f .part .size) in
+        let same = ap (λ (n : ℕ). q .number * n) worth-is in
+        let within : q .number * 10 ^ (3 - length (f .taken)) ≤ 50000000 = subst (λ (n : ℕ). n ≤ 50000000) same (leb-true (q .number * worth) 50000000 (p .1)) in
+        record {
+          cell = t .taken ++ point ∷ f .taken;
+          part = part-then s at (r .end) (q .end) point (t .taken) (f .taken) (t .part) inside is (f .part);
+          most = omega (arith, length-append (t .taken) (point ∷ f .taken), t .few, f .few);
+          clean = every-append (λ x. leb 46 x) (t .taken) (point ∷ f .taken) (least-down 46 48 (t .taken) (omega arith) (digits-least (t .taken) (t .all))) (least-one 46 point (f .taken) (omega arith) (least-down 46 48 (f .taken) (omega arith) (digits-least (f .taken) (f .all))));
+          value = λ line. decimal-power line (t .taken) (f .taken) (r .number) (q .number) h (t .few) (t .all) (t .number) k (f .few) (f .all) (f .number) within ∙ ap (λ (n : ℕ). accepted n) (sym same);
+        }
+
+-- ---- the whole line
+
+pub time-end : (s : List ℕ) (at : ℕ) (r : DigitRun) → DigitsTaken s at 9 0 r → r .end ≤ at + 9
+time-end s at r t = omega (arith, t .few, t .part .size)
+
+pub power-end : (s : List ℕ) (at : ℕ) (r : PowerRun) → PowerTaken s at r → r .end ≤ at + 10
+power-end s at r t = omega (arith, t .most, t .part .size)
+
+pub neither : (a b : Bool) → a || b ≡ false → (a ≡ false) × (b ≡ false)
+neither true b e = never (sym e)
+neither false b e = (refl, e)
+
+-- what stands after a comma
+abbrev pub AfterComma : List ℕ → ℕ → PowerRun → Type 0
+AfterComma s at r = (getD s at 0 ≡ 44) × PowerTaken s (at + 1) r
+
+pub usual-line : (columns : Columns) (s : List ℕ) (at : ℕ) (time : DigitRun) (second third fourth : PowerRun) → PowersNamed columns → at + 44 ≤ length s
+    → DigitsTaken s at 9 0 time → (eqb (time .end) at || ltb 316223999 (time .number)) ≡ false
+    → AfterComma s (time .end) second → AfterComma s (second .end) third → AfterComma s (third .end) fourth → getD s (fourth .end) 0 ≡ 10
+    → (r : Usual) → usualValues columns (time .number) (record { second = second .watts; third = third .watts; fourth = fourth .watts }) (fourth .end + 1) r → usualOf columns s at r
+usual-line columns s at time second third fourth named room t tests b c d lf Usual.Other u = tt
+usual-line columns s at time second third fourth named room t tests b c d lf (Usual.Row x n) u =
+    let told = neither (eqb (time .end) at) (ltb 316223999 (time .number)) tests in
+    let first-end = time-end s at time t in
+    let second-end = power-end s (time .end + 1) second (b .1) in
+    let third-end = power-end s (second .end + 1) third (c .1) in
+    let fourth-end = power-end s (third .end + 1) fourth (d .1) in
+    let some : 0 < length (t .taken) = some-taken (t .part .size) (eqb-false (time .end) at (told .0)) in
+    let whole : Part s at (fourth .end) (lineOf (t .taken) (b .1 .cell) (c .1 .cell) (d .1 .cell)) =
+    part-then s at (third .end) (fourth .end) comma ((t .taken ++ comma ∷ b .1 .cell) ++ comma ∷ c .1 .cell) (d .1 .cell)
+    (part-then s at (second .end) (third .end) comma (t .taken ++ comma ∷ b .1 .cell) (c .1 .cell)
+    (part-then s at (time .end) (second .end) comma (t .taken) (b .1 .cell) (t .part) (omega arith) (b .0) (b .1 .part))
+    (omega arith) (c .0) (c .1 .part)) (omega arith) (d .0) (d .1 .part) in
+    let next : n ≡ fourth .end + 1 = u .0 in
+    let inside : fourth .end < length s = omega arith in
+    let after : drop (fourth .end) s ≡ LF ∷ drop n s = drop-cons s (fourth .end) 0 inside ∙ ap (λ (y : ℕ). y ∷ drop (suc (fourth .end)) s) lf ∙ ap (λ (k : ℕ). LF ∷ drop k s) (sym (next ∙ add-one (fourth .end))) in
+    let clean = digits-least (t .taken) (t .all) in
+    record {
+      text = lineOf (t .taken) (b .1 .cell) (c .1 .cell) (d .1 .cell);
+      is = whole .is ∙ ap (λ (l : List ℕ). lineOf (t .taken) (b .1 .cell) (c .1 .cell) (d .1 .cell) ++ l) after;
+      whole = line-whole columns named (t .taken) (b .1 .cell) (c .1 .cell) (d .1 .cell) (time .number) (second .watts) (third .watts) (fourth .watts) clean (b .1 .clean) (c .1 .clean) (d .1 .clean);
+      onward = omega (arith, next, whole .size);
+      within = omega (arith, next);
+      row = λ line. line-row columns named (t .taken) (b .1 .cell) (c .1 .cell) (d .1 .cell) (time .number) (second .watts) (third .watts) (fourth .watts) clean (b .1 .clean) (c .1 .clean) (d .1 .clean)
+          x line (omega (arith, whole .size)) (time-cell line (t .taken) (time .number) some (t .few) (t .all) (t .number) (ltb-false 316223999 (time .number) (told .1))) (b .1 .value line) (c .1 .value line) (d .1 .value line) (u .1 line);
+    }
+  where
+    some-taken : {m : ℕ} → at + m ≡ time .end → (time .end ≡ at → ⊥) → 0 < m
+    some-taken {m} e h = omega (arith, e, h)
+
+-- the difference of a byte and the digit 0, where it wraps below zero
+pub digit-of : (byte digit : ℕ) → (digit + 48) % 2 ^ 32 ≡ byte → digit ≤ 9 → (48 ≤ byte) × (byte ≤ 57) × (byte - 48 ≡ digit)
+digit-of byte digit e h =
+    let l : digit + 48 < 2 ^ 32 = omega arith in
+    let k : digit + 48 ≡ byte = sym (mod-eq-of-lt l) ∙ e in
+    (omega arith, omega arith, omega arith)
+
+pub taking-digit : (s : List ℕ) (at most before taken number digit : ℕ) → Taking s at most before (at + taken) number → taken < most → (digit + 48) % 2 ^ 32 ≡ getD s (at + taken) 0 → digit ≤ 9
+    → Taking s at most before (at + (taken + 1)) (number * 10 + digit)
+taking-digit s at most before taken number digit g h e l =
+    let d = digit-of (getD s (at + taken) 0) digit e l in
+    let k : at + taken < at + most = omega arith in
+    let z : at + taken + 1 ≡ at + (taken + 1) = omega arith in
+    subst (λ (i : ℕ). Taking s at most before i (number * 10 + digit)) z (subst (λ (x : ℕ). Taking s at most before (at + taken + 1) (number * 10 + x)) (d .2) (taking-more s at most before (at + taken) number g k (d .0) (d .1)))
