@@ -5,7 +5,9 @@ ghost use Rattle.rules.specs.Answers.{verdictOf};
 ghost use Rattle.rules.specs.StationRecord.{someFileGives};
 ghost use Rattle.rules.specs.RunRecord.{possible};
 ghost use Rattle.rules.specs.Second.{inputsRight, admitted, Second};
+ghost use Rattle.commitment.specs.Choice.{Rated};
 use crate::step::step;
+use commitment::configuration::capacities;
 use records::possible::possible;
 use rows::row::put_row;
 use rules::answers::Outcome;
@@ -49,8 +51,14 @@ fn admit(done: u32, inputs: Inputs, room: usize) -> Verdict
 }
 
 // A second whose station and record were judged before: what `second` owes.
-pub(crate) fn judged_second(st: Station, run: Run, inputs: Inputs, row: &mut [u8]) -> Handed
-    requires { ⌜ (someFileGives st ≡ true) × (possible st run ≡ true) ⌝ }
+pub(crate) fn judged_second(
+    st: Station,
+    caps: &[u32; 64],
+    run: Run,
+    inputs: Inputs,
+    row: &mut [u8],
+) -> Handed
+    requires { ⌜ (someFileGives st ≡ true) × (possible st run ≡ true) × Rated (st .sets) (st .configs) (now caps) ⌝ }
     ensures { λ r. ⌜ Second st run inputs (now (row .entry)) r (now (row .exit)) ⌝ }
 {
     let verdict = admit(run.done, inputs, row.len());
@@ -60,7 +68,7 @@ pub(crate) fn judged_second(st: Station, run: Run, inputs: Inputs, row: &mut [u8
             run,
         };
     }
-    let worked = step(st, run, inputs);
+    let worked = step(st, caps, run, inputs);
     let next = worked.run;
     let line = worked.row;
     let answer = put_row(line, row);
@@ -83,5 +91,8 @@ pub fn second(st: Station, run: Run, inputs: Inputs, row: &mut [u8]) -> Handed
             run,
         };
     }
-    judged_second(st, run, inputs, row)
+    let sets = st.sets;
+    let configs = st.configs;
+    let caps = capacities(sets, configs);
+    judged_second(st, &caps, run, inputs, row)
 }

@@ -7,6 +7,7 @@ ghost use Rattle.rules.specs.StationRecord.{someFileGives};
 ghost use Rattle.rules.specs.RunRecord.{possible};
 ghost use Rattle.dispatch.specs.Seconds.{SecondsWorked};
 use crate::second::judged_second;
+use commitment::configuration::capacities;
 use records::possible::possible;
 use rules::answers::Outcome;
 use rules::answers::Refusal;
@@ -50,6 +51,9 @@ fn judged_seconds(
     ensures { λ r. ⌜ SecondsWorked st run (now (loads .entry)) (now (solars .entry)) (now (sheddables .entry)) (now (rows .entry)) r (now (rows .exit)) ⌝ }
 {
     let asked = places(loads, solars, sheddables);
+    let sets = st.sets;
+    let configs = st.configs;
+    let caps = capacities(sets, configs);
     let mut latest = run;
     let mut at: usize = 0;
     let mut i: usize = 0;
@@ -59,7 +63,7 @@ fn judged_seconds(
             solar: solars[i],
             sheddable: sheddables[i],
         };
-        let handed = judged_second(st, latest, inputs, &mut rows[at..]);
+        let handed = judged_second(st, &caps, latest, inputs, &mut rows[at..]);
         let answer = handed.answer;
         match answer {
             Outcome::Row(size) => {

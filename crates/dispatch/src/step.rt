@@ -3,6 +3,7 @@ ghost use mathlib.Core.Path.{_≡_};
 ghost use Rattle.rules.specs.Configuration.{sinceAfter};
 ghost use Rattle.rules.specs.Second.{step};
 ghost use Rattle.laws.specs.Admitted.{Admitted};
+ghost use Rattle.commitment.specs.Choice.{Rated};
 use crate::commit::commit;
 use crate::commit::wanted_now;
 use crate::supply::supply;
@@ -21,8 +22,8 @@ fn since_after(call: usize, called: usize, since: u32, now: u32) -> u32
     if call == called { since } else { now }
 }
 
-pub(crate) fn step(st: Station, run: Run, inputs: Inputs) -> Step
-    requires { ⌜ Admitted st run inputs ⌝ }
+pub(crate) fn step(st: Station, caps: &[u32; 64], run: Run, inputs: Inputs) -> Step
+    requires { ⌜ Admitted st run inputs × Rated (st .sets) (st .configs) (now caps) ⌝ }
     ensures { λ r. ⌜ r ≡ step st run inputs ⌝ }
 {
     let control = st.control;
@@ -33,7 +34,16 @@ pub(crate) fn step(st: Station, run: Run, inputs: Inputs) -> Step
     let ran = supplied.states;
     let decided = supplied.decided;
     let wanted = wanted_now(control, watts, inputs.sheddable);
-    let committed = commit(st, ran, setpoint, wanted, run.called, run.since, run.done);
+    let committed = commit(
+        st,
+        caps,
+        ran,
+        setpoint,
+        wanted,
+        run.called,
+        run.since,
+        run.done,
+    );
     let states = committed.states;
     let call = committed.call;
     let sums = plus(totals, watts);

@@ -25,7 +25,7 @@ enum-told c = search needs
 step-requires : tie.Need-step-requires
 step-requires c κs =
     let start = c .before .before .before .before in
-    is-admitted (start .args .st) (start .args .run) (start .args .inputs) (now (start .args .row)) (start .pre .0) (start .pre .1) _ (c .before .before .admit .ensures) (c .enum-told .given .1)
+    (is-admitted (start .args .st) (start .args .run) (start .args .inputs) (now (start .args .row)) (start .pre .0) (start .pre .1) _ (c .before .before .admit .ensures) (c .enum-told .given .1), start .pre .2)
 
 put-row-requires : tie.Need-put-row-requires
 put-row-requires c κs = search needs

@@ -13,17 +13,18 @@ use Rattle.rules.specs.RunRecord.{possible}
 use Rattle.rules.specs.Second.{Second}
 use Rattle.rules.proofs.Shapes.{Tables}
 use Rattle.dispatch.specs.Seconds.{inputsOf}
+use Rattle.dispatch.proofs.Ready.{rated}
 use Rattle.dispatch.proofs.Going.{rest-is, back-is, inputs-length, inputsAt, Going, going-start, over, stops, goes, stays, owed}
 use Rattle.dispatch.proofs.seconds.judged_seconds.Statement.{statement}
 use Rattle.dispatch.proofs.seconds.judged_seconds.Tie as tie
 use Rattle.rules.specs.declared.answers.Verdict.the-variants.{Accepted}
 
 abbrev Inv-loop : tie.InvT-loop
-Inv-loop st loads solars sheddables rows₀ asked latest₀ at₀ i₀ rows latest at i =
+Inv-loop st loads solars sheddables rows₀ asked caps latest₀ at₀ i₀ rows latest at i =
     (asked ≡ length (inputsOf loads solars sheddables)) × (someFileGives st ≡ true) × (possible st latest ≡ true) × Going st loads solars sheddables rows₀ latest₀ rows latest at i
 
 abbrev μ-loop : tie.MeasureT-loop
-μ-loop st loads solars sheddables rows₀ asked latest₀ at₀ i₀ rows latest at i = asked - i
+μ-loop st loads solars sheddables rows₀ asked caps latest₀ at₀ i₀ rows latest at i = asked - i
 
 -- the station's tables have their lengths
 tables : (c : tie.Start Inv-loop μ-loop) → Tables (c .args .st)
@@ -31,49 +32,52 @@ tables c =
     let good = c .good .0 .1 .1 .1 .1 .1 .1 in
     record { sets-length = simp length-map at (good .0 .1 .0 .1); configs-length = simp length-map at (good .1 .0 .1 .0 .1) }
 
-owes : (c : tie.After-judged-second Inv-loop μ-loop) → Second (c .before .before .before .before .before .before .before .before .before .before .before .before .args .st) (c .before .before .before .before .before .before .loop .latest) (inputsAt (now (c .before .before .before .before .before .before .before .before .before .before .before .before .args .loads)) (now (c .before .before .before .before .before .before .before .before .before .before .before .before .args .solars)) (now (c .before .before .before .before .before .before .before .before .before .before .before .before .args .sheddables)) (c .before .before .before .before .before .before .loop .i)) (drop (c .before .before .before .before .before .before .loop .at) (c .before .before .before .before .before .before .loop .rows)) (c .judged-second .result) (c .judged-second .last .1 .1 .1 .0)
+owes : (c : tie.After-judged-second Inv-loop μ-loop) → Second (c .before .before .before .before .before .before .before .before .before .before .before .before .before .before .before .before .args .st) (c .before .before .before .before .before .before .before .loop .latest) (inputsAt (now (c .before .before .before .before .before .before .before .before .before .before .before .before .before .before .before .before .args .loads)) (now (c .before .before .before .before .before .before .before .before .before .before .before .before .before .before .before .before .args .solars)) (now (c .before .before .before .before .before .before .before .before .before .before .before .before .before .before .before .before .args .sheddables)) (c .before .before .before .before .before .before .before .loop .i)) (drop (c .before .before .before .before .before .before .before .loop .at) (c .before .before .before .before .before .before .before .loop .rows)) (c .judged-second .result) (c .judged-second .last .1 .1 .1 .1 .0)
 owes c = rw rest-is at (c .judged-second .ensures)
 
-same-size : (c : tie.After-judged-second Inv-loop μ-loop) → length (c .judged-second .last .1 .1 .1 .0) ≡ length (drop (c .before .before .before .before .before .before .loop .at) (c .before .before .before .before .before .before .loop .rows))
+same-size : (c : tie.After-judged-second Inv-loop μ-loop) → length (c .judged-second .last .1 .1 .1 .1 .0) ≡ length (drop (c .before .before .before .before .before .before .before .loop .at) (c .before .before .before .before .before .before .before .loop .rows))
 same-size c =
-    let at-loop = c .before .before .before .before .before .before in
-    c .judged-second .kept .1 .1 .1 .0 ∙ ap length (rest-is (at-loop .loop .rows) (at-loop .loop .at))
+    let at-loop = c .before .before .before .before .before .before .before in
+    c .judged-second .kept .1 .1 .1 .1 .0 ∙ ap length (rest-is (at-loop .loop .rows) (at-loop .loop .at))
 
-within : (c : tie.After-judged-second Inv-loop μ-loop) → c .before .before .before .before .before .before .loop .i < length (inputsOf (now (c .before .before .before .before .before .before .before .before .before .before .before .before .args .loads)) (now (c .before .before .before .before .before .before .before .before .before .before .before .before .args .solars)) (now (c .before .before .before .before .before .before .before .before .before .before .before .before .args .sheddables)))
+within : (c : tie.After-judged-second Inv-loop μ-loop) → c .before .before .before .before .before .before .before .loop .i < length (inputsOf (now (c .before .before .before .before .before .before .before .before .before .before .before .before .before .before .before .before .args .loads)) (now (c .before .before .before .before .before .before .before .before .before .before .before .before .before .before .before .before .args .solars)) (now (c .before .before .before .before .before .before .before .before .before .before .before .before .before .before .before .before .args .sheddables)))
 within c =
-    let at-loop = c .before .before .before .before .before .before in
-    let t = c .before .before .before .before .before .loop-test .taken in omega (arith, at-loop .loop .inv .0)
+    let at-loop = c .before .before .before .before .before .before .before in
+    let t = c .before .before .before .before .before .before .loop-test .taken in omega (arith, at-loop .loop .inv .0)
 
 places-requires : tie.Need-places-requires Inv-loop μ-loop
 places-requires c κs = search needs
 
 loop-holds : tie.Need-loop-holds Inv-loop μ-loop
 loop-holds c =
-    let start = c .before .before .before .before .before in
-    (c .places .ensures ∙ sym (inputs-length (now (start .args .loads)) (now (start .args .solars)) (now (start .args .sheddables))), start .pre .0, start .pre .1, going-start (start .args .st) (now (start .args .loads)) (now (start .args .solars)) (now (start .args .sheddables)) (now (start .args .rows)) (start .args .run))
-
-mul-t17 : tie.Need-mul-t17 Inv-loop μ-loop
-mul-t17 c = search needs
-
-shared-slice-read-t19 : tie.Need-shared-slice-read-t19 Inv-loop μ-loop
-shared-slice-read-t19 c =
     let start = c .before .before .before .before .before .before .before .before in
+    (c .before .before .before .places .ensures ∙ sym (inputs-length (now (start .args .loads)) (now (start .args .solars)) (now (start .args .sheddables))), start .pre .0, start .pre .1, going-start (start .args .st) (now (start .args .loads)) (now (start .args .solars)) (now (start .args .sheddables)) (now (start .args .rows)) (start .args .run))
+
+capacities-requires : tie.Need-capacities-requires Inv-loop μ-loop
+capacities-requires c κs = search needs
+
+mul-t21 : tie.Need-mul-t21 Inv-loop μ-loop
+mul-t21 c = search needs
+
+shared-slice-read-t23 : tie.Need-shared-slice-read-t23 Inv-loop μ-loop
+shared-slice-read-t23 c =
+    let start = c .before .before .before .before .before .before .before .before .before .before .before in
     let t = c .before .loop-test .taken in omega (arith, c .before .before .loop .inv .0, inputs-length (now (start .args .loads)) (now (start .args .solars)) (now (start .args .sheddables)))
 
-mul-t20 : tie.Need-mul-t20 Inv-loop μ-loop
-mul-t20 c = search needs
+mul-t24 : tie.Need-mul-t24 Inv-loop μ-loop
+mul-t24 c = search needs
 
-shared-slice-read-t22 : tie.Need-shared-slice-read-t22 Inv-loop μ-loop
-shared-slice-read-t22 c =
-    let start = c .before .before .before .before .before .before .before .before .before in
+shared-slice-read-t26 : tie.Need-shared-slice-read-t26 Inv-loop μ-loop
+shared-slice-read-t26 c =
+    let start = c .before .before .before .before .before .before .before .before .before .before .before .before in
     let t = c .before .before .loop-test .taken in omega (arith, c .before .before .before .loop .inv .0, inputs-length (now (start .args .loads)) (now (start .args .solars)) (now (start .args .sheddables)))
 
-mul-t23 : tie.Need-mul-t23 Inv-loop μ-loop
-mul-t23 c = search needs
+mul-t27 : tie.Need-mul-t27 Inv-loop μ-loop
+mul-t27 c = search needs
 
-shared-slice-read-t25 : tie.Need-shared-slice-read-t25 Inv-loop μ-loop
-shared-slice-read-t25 c =
-    let start = c .before .before .before .before .before .before .before .before .before .before in
+shared-slice-read-t29 : tie.Need-shared-slice-read-t29 Inv-loop μ-loop
+shared-slice-read-t29 c =
+    let start = c .before .before .before .before .before .before .before .before .before .before .before .before .before in
     let t = c .before .before .before .loop-test .taken in omega (arith, c .before .before .before .before .loop .inv .0, inputs-length (now (start .args .loads)) (now (start .args .solars)) (now (start .args .sheddables)))
 
 sub-judged-second : tie.Need-sub-judged-second Inv-loop μ-loop
@@ -87,8 +91,9 @@ part-judged-second-end c = search needs
 
 judged-second-requires : tie.Need-judged-second-requires Inv-loop μ-loop
 judged-second-requires c κs =
-    let at-loop = c .before .before .before .before .before in
-    (at-loop .loop .inv .1, at-loop .loop .inv .2)
+    let at-loop = c .before .before .before .before .before .before in
+    let start = at-loop .before .before .before .before .before .before .before .before .before in
+    (at-loop .loop .inv .1, at-loop .loop .inv .2, rated (start .args .st) (tables start) (start .pre .0) _ (at-loop .before .capacities .ensures))
 
 enum-known-answer : tie.Need-enum-known-answer Inv-loop μ-loop
 enum-known-answer c = search needs
@@ -97,9 +102,9 @@ add-at : tie.Need-add-at Inv-loop μ-loop
 add-at c =
     let after-before = c .before .before .before .before .before in
     let after-judged-second = after-before .before in
-    let at-loop = after-judged-second .before .before .before .before .before .before in
-    let start = at-loop .before .before .before .before .before .before in
-    omega (arith, (goes (start .args .st) (now (start .args .loads)) (now (start .args .solars)) (now (start .args .sheddables)) (now (start .args .rows)) (start .args .run) (at-loop .loop .rows) (at-loop .loop .latest) (at-loop .loop .at) (at-loop .loop .i) (at-loop .loop .inv .3) (within (after-judged-second)) (after-judged-second .judged-second .result) (after-judged-second .judged-second .last .1 .1 .1 .0) (owes (after-judged-second)) (c .before .before .answer .given .0 .0) (c .before .before .answer .given .1) (same-size (after-judged-second))) .0, at-loop .loop .inv .3 .size, start .good .1 .1 .1 .1 .1 .0 .0)
+    let at-loop = after-judged-second .before .before .before .before .before .before .before in
+    let start = at-loop .before .before .before .before .before .before .before .before .before in
+    omega (arith, (goes (start .args .st) (now (start .args .loads)) (now (start .args .solars)) (now (start .args .sheddables)) (now (start .args .rows)) (start .args .run) (at-loop .loop .rows) (at-loop .loop .latest) (at-loop .loop .at) (at-loop .loop .i) (at-loop .loop .inv .3) (within (after-judged-second)) (after-judged-second .judged-second .result) (after-judged-second .judged-second .last .1 .1 .1 .1 .0) (owes (after-judged-second)) (c .before .before .answer .given .0 .0) (c .before .before .answer .given .1) (same-size (after-judged-second))) .0, at-loop .loop .inv .3 .size, start .good .1 .1 .1 .1 .1 .0 .0)
 
 add-i : tie.Need-add-i Inv-loop μ-loop
 add-i c = search needs
@@ -112,10 +117,10 @@ loop-again c =
     let after-answer = c .before .before in
     let after-before = after-answer .before .before .before in
     let after-judged-second = after-before .before in
-    let at-loop = after-judged-second .before .before .before .before .before .before in
-    let after-before-17 = at-loop .before .before .before .before .before in
+    let at-loop = after-judged-second .before .before .before .before .before .before .before in
+    let after-before-17 = at-loop .before .before .before .before .before .before .before .before in
     let start = after-before-17 .before in
-    (at-loop .loop .inv .0, at-loop .loop .inv .1, stays (start .args .st) (now (start .args .loads)) (now (start .args .solars)) (now (start .args .sheddables)) (now (start .args .rows)) (start .args .run) (at-loop .loop .rows) (at-loop .loop .latest) (at-loop .loop .at) (at-loop .loop .i) (at-loop .loop .inv .3) (within (after-judged-second)) (after-judged-second .judged-second .result) (after-judged-second .judged-second .last .1 .1 .1 .0) (owes (after-judged-second)) (after-answer .answer .given .0 .0) (after-answer .answer .given .1) (tables (start)), rw (back-is (at-loop .loop .rows) (after-judged-second .judged-second .last .1 .1 .1 .0) (at-loop .loop .at)) ((goes (start .args .st) (now (start .args .loads)) (now (start .args .solars)) (now (start .args .sheddables)) (now (start .args .rows)) (start .args .run) (at-loop .loop .rows) (at-loop .loop .latest) (at-loop .loop .at) (at-loop .loop .i) (at-loop .loop .inv .3) (within (after-judged-second)) (after-judged-second .judged-second .result) (after-judged-second .judged-second .last .1 .1 .1 .0) (owes (after-judged-second)) (after-answer .answer .given .0 .0) (after-answer .answer .given .1) (same-size (after-judged-second))) .1))
+    (at-loop .loop .inv .0, at-loop .loop .inv .1, stays (start .args .st) (now (start .args .loads)) (now (start .args .solars)) (now (start .args .sheddables)) (now (start .args .rows)) (start .args .run) (at-loop .loop .rows) (at-loop .loop .latest) (at-loop .loop .at) (at-loop .loop .i) (at-loop .loop .inv .3) (within (after-judged-second)) (after-judged-second .judged-second .result) (after-judged-second .judged-second .last .1 .1 .1 .1 .0) (owes (after-judged-second)) (after-answer .answer .given .0 .0) (after-answer .answer .given .1) (tables (start)), rw (back-is (at-loop .loop .rows) (after-judged-second .judged-second .last .1 .1 .1 .1 .0) (at-loop .loop .at)) ((goes (start .args .st) (now (start .args .loads)) (now (start .args .solars)) (now (start .args .sheddables)) (now (start .args .rows)) (start .args .run) (at-loop .loop .rows) (at-loop .loop .latest) (at-loop .loop .at) (at-loop .loop .i) (at-loop .loop .inv .3) (within (after-judged-second)) (after-judged-second .judged-second .result) (after-judged-second .judged-second .last .1 .1 .1 .1 .0) (owes (after-judged-second)) (after-answer .answer .given .0 .0) (after-answer .answer .given .1) (same-size (after-judged-second))) .1))
 
 enum-known-answer-2 : tie.Need-enum-known-answer-2 Inv-loop μ-loop
 enum-known-answer-2 c = search needs
@@ -123,17 +128,17 @@ enum-known-answer-2 c = search needs
 same-length : tie.Need-same-length Inv-loop μ-loop
 same-length c =
     let after-judged-second = c .before .before .before .before .before in
-    let at-loop = after-judged-second .before .before .before .before .before .before in
-    rw (back-is (at-loop .loop .rows) (after-judged-second .judged-second .last .1 .1 .1 .0) (at-loop .loop .at)) (omega (arith, length-append (take (at-loop .loop .at) (at-loop .loop .rows)) (after-judged-second .judged-second .last .1 .1 .1 .0), same-size (after-judged-second), length-take (at-loop .loop .at) (at-loop .loop .rows), length-drop (at-loop .loop .at) (at-loop .loop .rows), at-loop .loop .inv .3 .size, at-loop .loop .inv .3 .within))
+    let at-loop = after-judged-second .before .before .before .before .before .before .before in
+    rw (back-is (at-loop .loop .rows) (after-judged-second .judged-second .last .1 .1 .1 .1 .0) (at-loop .loop .at)) (omega (arith, length-append (take (at-loop .loop .at) (at-loop .loop .rows)) (after-judged-second .judged-second .last .1 .1 .1 .1 .0), same-size (after-judged-second), length-take (at-loop .loop .at) (at-loop .loop .rows), length-drop (at-loop .loop .at) (at-loop .loop .rows), at-loop .loop .inv .3 .size, at-loop .loop .inv .3 .within))
 
 returns : tie.Need-returns Inv-loop μ-loop
 returns c =
     let after-before = c .before .before .before .before in
     let after-judged-second = after-before .before in
-    let at-loop = after-judged-second .before .before .before .before .before .before in
-    let start = at-loop .before .before .before .before .before .before in
-    let t = stops (start .args .st) (now (start .args .loads)) (now (start .args .solars)) (now (start .args .sheddables)) (now (start .args .rows)) (start .args .run) (at-loop .loop .rows) (at-loop .loop .latest) (at-loop .loop .at) (at-loop .loop .i) (at-loop .loop .inv .3) (within (after-judged-second)) (after-judged-second .judged-second .result) (after-judged-second .judged-second .last .1 .1 .1 .0) (owes (after-judged-second)) (c .before .answer2 .given .0 .0) (c .before .answer2 .given .1) in
-    owed (start .args .st) (now (start .args .loads)) (now (start .args .solars)) (now (start .args .sheddables)) (now (start .args .rows)) (start .args .run) (at-loop .loop .rows) _ (at-loop .loop .latest) (at-loop .loop .at) (at-loop .loop .i) _ (at-loop .loop .inv .3 .within) (t .0) (back-is (at-loop .loop .rows) (after-judged-second .judged-second .last .1 .1 .1 .0) (at-loop .loop .at) ∙ ap (λ (x : List ℕ). take (at-loop .loop .at) (at-loop .loop .rows) ++ x) (t .1))
+    let at-loop = after-judged-second .before .before .before .before .before .before .before in
+    let start = at-loop .before .before .before .before .before .before .before .before .before in
+    let t = stops (start .args .st) (now (start .args .loads)) (now (start .args .solars)) (now (start .args .sheddables)) (now (start .args .rows)) (start .args .run) (at-loop .loop .rows) (at-loop .loop .latest) (at-loop .loop .at) (at-loop .loop .i) (at-loop .loop .inv .3) (within (after-judged-second)) (after-judged-second .judged-second .result) (after-judged-second .judged-second .last .1 .1 .1 .1 .0) (owes (after-judged-second)) (c .before .answer2 .given .0 .0) (c .before .answer2 .given .1) in
+    owed (start .args .st) (now (start .args .loads)) (now (start .args .solars)) (now (start .args .sheddables)) (now (start .args .rows)) (start .args .run) (at-loop .loop .rows) _ (at-loop .loop .latest) (at-loop .loop .at) (at-loop .loop .i) _ (at-loop .loop .inv .3 .within) (t .0) (back-is (at-loop .loop .rows) (after-judged-second .judged-second .last .1 .1 .1 .1 .0) (at-loop .loop .at) ∙ ap (λ (x : List ℕ). take (at-loop .loop .at) (at-loop .loop .rows) ++ x) (t .1))
 
 same-length-2 : tie.Need-same-length-2 Inv-loop μ-loop
 same-length-2 c = c .before .loop .inv .3 .size
@@ -141,7 +146,7 @@ same-length-2 c = c .before .loop .inv .3 .size
 returns-2 : tie.Need-returns-2 Inv-loop μ-loop
 returns-2 c =
     let at-loop = c .before in
-    let start = at-loop .before .before .before .before .before .before in
+    let start = at-loop .before .before .before .before .before .before .before .before .before in
     let t = c .loop-test .left in
     owed (start .args .st) (now (start .args .loads)) (now (start .args .solars)) (now (start .args .sheddables)) (now (start .args .rows)) (start .args .run) (at-loop .loop .rows) _ (at-loop .loop .latest) (at-loop .loop .at) (at-loop .loop .i) Accepted (at-loop .loop .inv .3 .within) (over (start .args .st) (now (start .args .loads)) (now (start .args .solars)) (now (start .args .sheddables)) (now (start .args .rows)) (start .args .run) (at-loop .loop .rows) (at-loop .loop .latest) (at-loop .loop .at) (at-loop .loop .i) (at-loop .loop .inv .3) (omega (arith, at-loop .loop .inv .0))) (sym (take-append-drop (at-loop .loop .at) (at-loop .loop .rows)) ∙ ap (λ (x : List ℕ). take (at-loop .loop .at) (at-loop .loop .rows) ++ x) (at-loop .loop .inv .3 .rest))
 
@@ -152,13 +157,14 @@ judged-seconds-spec =
     Inv-loop
     μ-loop
     places-requires
+    capacities-requires
     loop-holds
-    mul-t17
-    shared-slice-read-t19
-    mul-t20
-    shared-slice-read-t22
-    mul-t23
-    shared-slice-read-t25
+    mul-t21
+    shared-slice-read-t23
+    mul-t24
+    shared-slice-read-t26
+    mul-t27
+    shared-slice-read-t29
     sub-judged-second
     part-judged-second-start
     part-judged-second-end

@@ -18,38 +18,38 @@ tables c =
     record { sets-length = simp length-map at (good .0 .1 .0 .1); configs-length = simp length-map at (good .1 .0 .1 .0 .1) }
 
 supply-requires : tie.Need-supply-requires
-supply-requires c κs = search needs
+supply-requires c κs = c .before .before .pre .0
 
 wanted-now-requires : tie.Need-wanted-now-requires
 wanted-now-requires c κs =
     let start = c .before .before .before .before .before .before in
-    rw (c .before .before .before .supply .ensures .watts) (wantable (start .args .st) (tables (start)) (start .args .run) (start .args .inputs) (start .pre))
+    rw (c .before .before .before .supply .ensures .watts) (wantable (start .args .st) (tables (start)) (start .args .run) (start .args .inputs) (start .pre .0))
 
 commit-requires : tie.Need-commit-requires
 commit-requires c κs =
     let after-before = c .before .before .before .before .before .before in
     let start = after-before .before in
-    rw (c .before .before .before .before .supply .ensures .states) (switchable (start .args .st) (tables (start)) (start .args .run) (start .args .inputs) (start .pre) (wattsNow (start .args .st) (start .args .run) (start .args .inputs)))
+    (rw (c .before .before .before .before .supply .ensures .states) (switchable (start .args .st) (tables (start)) (start .args .run) (start .args .inputs) (start .pre .0) (wattsNow (start .args .st) (start .args .run) (start .args .inputs))), start .pre .1)
 
 plus-requires : tie.Need-plus-requires
 plus-requires c κs =
     let after-before = c .before .before .before .before .before .before .before .before in
     let start = after-before .before in
-    totals-small (start .args .st) (tables (start)) (start .args .run) (start .args .inputs) (start .pre)
+    totals-small (start .args .st) (tables (start)) (start .args .run) (start .args .inputs) (start .pre .0)
 
-add-t18 : tie.Need-add-t18
-add-t18 c = search needs
+add-t19 : tie.Need-add-t19
+add-t19 c = record { fits = omega (arith, c .before .before .before .before .before .before .before .before .before .before .before .pre .0 .not-ended) }
 
 since-after-requires : tie.Need-since-after-requires
 since-after-requires c κs = search needs
 
-cast-t19 : tie.Need-cast-t19
-cast-t19 c =
+cast-t20 : tie.Need-cast-t20
+cast-t20 c =
     let after-wanted-now = c .before .before .before .before .before .before in
     let after-supply = after-wanted-now .before .before .before .before in
     let after-before = after-supply .before .before in
     let start = after-before .before in
-    omega (arith, call-now (start .args .st) (start .args .run) (start .args .inputs) _ (after-supply .supply .ensures) _ (after-wanted-now .wanted-now .ensures) _ (c .before .before .before .before .before .commit .ensures), call-most (start .args .st) (tables (start)) (start .args .run) (start .args .inputs) (start .pre))
+    omega (arith, call-now (start .args .st) (start .args .run) (start .args .inputs) _ (after-supply .supply .ensures) _ (after-wanted-now .wanted-now .ensures) _ (c .before .before .before .before .before .commit .ensures), call-most (start .args .st) (tables (start)) (start .args .run) (start .args .inputs) (start .pre .0))
 
 returns : tie.Need-returns
 returns c =
@@ -66,7 +66,7 @@ step-spec =
     wanted-now-requires
     commit-requires
     plus-requires
-    add-t18
+    add-t19
     since-after-requires
-    cast-t19
+    cast-t20
     returns)
