@@ -165,7 +165,7 @@ fn called_covers(
     if called == 0 {
         return false;
     }
-    if MOST_CONFIGURATIONS < called {
+    if called > MOST_CONFIGURATIONS {
         return false;
     }
     let place = called - 1;

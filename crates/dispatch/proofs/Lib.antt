@@ -3,5 +3,6 @@ pub mod Ready
 pub mod Steps
 pub mod Owed
 pub mod Going
+pub mod Alone
 pub mod RowLength
 pub mod FromStart
