@@ -48,7 +48,7 @@ pub(crate) fn supply(
     let watts = flows.watts;
     let new = shed_decided(control, cap, inputs.load, watts.solar, inputs.sheddable);
     decide(control.delay, new, decided);
-    let ran = count_all(sets, states, on, watts.diesel);
+    let ran = count_all(sets, states, on, watts.diesel, cap as u64);
     Supplied {
         states: ran,
         on,

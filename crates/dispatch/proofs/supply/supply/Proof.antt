@@ -48,6 +48,9 @@ tables c =
     let good = c .good .0 .1 .1 .1 .1 .1 .1 in
     record { sets-length = simp length-map at (good .0 .1 .0 .1); configs-length = simp length-map at (good .1 .0 .1 .0 .1) }
 
+cast-count-all : tie.Need-cast-count-all
+cast-count-all c = search needs
+
 count-all-requires : tie.Need-count-all-requires
 count-all-requires c κs =
     let flowed = c .before .before .before .before .before .before in
@@ -55,12 +58,15 @@ count-all-requires c κs =
     let rated = floored .before in
     let masked = rated .before in
     let ticked = masked .before in
-    let start = ticked .before .before .before .before .before in
-    rw (
-      states-now (start .args .st) (runOf (start .args .moment) (start .args .before) (now (start .args .decided))) (start .args .inputs) _ (ticked .tick-all .ensures) _ (masked .on-mask .ensures .0) _ (rated .capacity .ensures) _ (floored .floor-load .ensures),
-      on-now (start .args .st) (runOf (start .args .moment) (start .args .before) (now (start .args .decided))) (start .args .inputs) _ (ticked .tick-all .ensures) _ (masked .on-mask .ensures .0) _ (rated .capacity .ensures) _ (floored .floor-load .ensures),
-      watts-now (start .args .st) (runOf (start .args .moment) (start .args .before) (now (start .args .decided))) (start .args .inputs) _ (ticked .tick-all .ensures) _ (masked .on-mask .ensures .0) _ (rated .capacity .ensures) _ (floored .floor-load .ensures) _ (flowed .flow .ensures .0),
-    ) (countable (start .args .st) (tables start) (runOf (start .args .moment) (start .args .before) (now (start .args .decided))) (start .args .inputs) (start .pre .0))
+    let start = ticked .before .before .before .before .before in (
+      rw (
+        states-now (start .args .st) (runOf (start .args .moment) (start .args .before) (now (start .args .decided))) (start .args .inputs) _ (ticked .tick-all .ensures) _ (masked .on-mask .ensures .0) _ (rated .capacity .ensures) _ (floored .floor-load .ensures),
+        on-now (start .args .st) (runOf (start .args .moment) (start .args .before) (now (start .args .decided))) (start .args .inputs) _ (ticked .tick-all .ensures) _ (masked .on-mask .ensures .0) _ (rated .capacity .ensures) _ (floored .floor-load .ensures),
+        watts-now (start .args .st) (runOf (start .args .moment) (start .args .before) (now (start .args .decided))) (start .args .inputs) _ (ticked .tick-all .ensures) _ (masked .on-mask .ensures .0) _ (rated .capacity .ensures) _ (floored .floor-load .ensures) _ (flowed .flow .ensures .0),
+      ) (countable (start .args .st) (tables start) (runOf (start .args .moment) (start .args .before) (now (start .args .decided))) (start .args .inputs) (start .pre .0)),
+      rated .capacity .ensures,
+      masked .on-mask .ensures .0,
+    )
 
 same-length : tie.Need-same-length
 same-length c = search needs
@@ -96,6 +102,7 @@ supply-spec =
     flow-requires
     shed-decided-requires
     decide-requires
+    cast-count-all
     count-all-requires
     same-length
     returns)
