@@ -6,10 +6,10 @@ ghost use lib.ListN.{take};
 ghost use Rattle.rules.specs.Setpoint.{covers};
 ghost use Rattle.rules.specs.Configuration.{maskCalled, usable, usableCovering, firstCovering, greatestUsable, chosen};
 ghost use Rattle.modes.specs.Barred.{barredMask};
-ghost use Rattle.commitment.specs.Choice.{greater};
+ghost use Rattle.rules.specs.Share.{capacity};
+ghost use Rattle.commitment.specs.Choice.{greater, capacities, Rated};
 use crate::setpoint::over;
 use gensets::share::capacity;
-use modes::masks::barred_mask;
 use rules::limits::MOST_CONFIGURATIONS;
 use rules::run::SetState;
 use rules::station::GenSet;
@@ -29,9 +29,14 @@ pub fn mask_called(configs: [u8; 64], called: usize) -> u32
     configs[called - 1] as u32
 }
 
-// Up to 2^53 a capacity is compared as it is; above that it would be rounded first.
-fn covers(held: f64, cap: u64) -> bool
-    requires { ⌜ cap ≤ 9007199254740992 ⌝ }
+fn wide(mask: u8) -> u32
+    ensures { λ r. ⌜ r ≡ mask ⌝ }
+{
+    mask as u32
+}
+
+// A capacity of 32 bits is compared as it is: a float has room for it.
+fn covers(held: f64, cap: u32) -> bool
     ensures { λ r. ⌜ r ≡ covers held cap ⌝ }
 {
     held <= cap as f64
@@ -45,32 +50,53 @@ fn usable(mask: u32, barred: u32) -> bool
     (0 < mask) & (mask & barred == 0)
 }
 
-fn usable_covering(sets: [GenSet; 8], barred: u32, held: f64, mask: u32) -> bool
-    ensures { λ r. ⌜ ((states : List SetState) → barred ≡ barredMask sets states → r ≡ usableCovering sets states held mask) ⌝ }
+fn usable_covering(barred: u32, held: f64, mask: u32, cap: u32) -> bool
+    ensures { λ r. ⌜ ((sets : List GenSet) (states : List SetState) → barred ≡ barredMask sets states → cap ≡ capacity sets mask → r ≡ usableCovering sets states held mask) ⌝ }
 {
-    if !usable(mask, barred) {
-        return false;
-    }
+    usable(mask, barred) & covers(held, cap)
+}
+
+// The capacity of a mask; that of a station's sets always fits.
+fn capacity_fitting(sets: [GenSet; 8], mask: u32) -> u32
+    ensures { λ r. ⌜ r ≡ min (capacity sets mask) 4_294_967_295 ⌝ }
+{
     let cap = capacity(sets, mask);
-    covers(held, cap)
+    if 4_294_967_295 < cap {
+        return 4_294_967_295;
+    }
+    cap as u32
+}
+
+// Each configuration's capacity: the same in every second of a station, so that many seconds ask it once.
+pub fn capacities(sets: [GenSet; 8], configs: [u8; 64]) -> [u32; 64]
+    ensures { λ r. ⌜ r ≡ capacities sets configs ⌝ }
+{
+    let mut caps = [0u32; 64];
+    let mut i: usize = 0;
+    while i < 64 {
+        caps[i] = capacity_fitting(sets, wide(configs[i]));
+        i += 1;
+    }
+    caps
 }
 
 // The number of the first usable configuration that covers what is held, or 0.
 fn first_covering(
-    sets: [GenSet; 8],
-    configs: [u8; 64],
+    configs: &[u8; 64],
+    caps: &[u32; 64],
     configcount: usize,
     barred: u32,
     held: f64,
 ) -> usize
     requires { ⌜ configcount ≤ 64 ⌝ }
-    ensures { λ r. ⌜ ((states : List SetState) → barred ≡ barredMask sets states → r ≡ firstCovering sets states held 0 (take configcount configs)) ⌝ }
+    ensures { λ r. ⌜ ((sets : List GenSet) (states : List SetState) → barred ≡ barredMask sets states → Rated sets (now (configs .entry)) (now (caps .entry)) → r ≡ firstCovering sets states held 0 (take configcount (now (configs .entry)))) ⌝ }
 {
     let mut i: usize = 0;
     while i < configcount {
-        let mask = configs[i] as u32;
+        let mask = wide(configs[i]);
+        let cap = caps[i];
         i += 1;
-        if usable_covering(sets, barred, held, mask) {
+        if usable_covering(barred, held, mask, cap) {
             return i;
         }
     }
@@ -80,17 +106,16 @@ fn first_covering(
 // A usable configuration's number and its capacity; 0 and 0 for none.
 pub(crate) struct Greatest {
     pub(crate) number: usize,
-    pub(crate) most: u64,
+    pub(crate) most: u32,
 }
 
 // The greater of the greatest so far and the configuration of a number; of equals the one so far.
-fn greater(greatest: Greatest, sets: [GenSet; 8], barred: u32, mask: u32, number: usize) -> Greatest
-    ensures { λ r. ⌜ ((states : List SetState) → barred ≡ barredMask sets states → r ≡ greater sets states greatest mask number) ⌝ }
+fn greater(greatest: Greatest, barred: u32, mask: u32, cap: u32, number: usize) -> Greatest
+    ensures { λ r. ⌜ ((sets : List GenSet) (states : List SetState) → barred ≡ barredMask sets states → cap ≡ capacity sets mask → r ≡ greater sets states greatest mask number) ⌝ }
 {
     if !usable(mask, barred) {
         return greatest;
     }
-    let cap = capacity(sets, mask);
     if greatest.most < cap {
         return Greatest {
             number: number,
@@ -101,16 +126,17 @@ fn greater(greatest: Greatest, sets: [GenSet; 8], barred: u32, mask: u32, number
 }
 
 // The number of the usable configuration of greatest capacity, the first of equals, or 0.
-fn greatest_usable(sets: [GenSet; 8], configs: [u8; 64], configcount: usize, barred: u32) -> usize
+fn greatest_usable(configs: &[u8; 64], caps: &[u32; 64], configcount: usize, barred: u32) -> usize
     requires { ⌜ configcount ≤ 64 ⌝ }
-    ensures { λ r. ⌜ ((states : List SetState) → barred ≡ barredMask sets states → r ≡ greatestUsable sets states 0 0 0 (take configcount configs)) ⌝ }
+    ensures { λ r. ⌜ ((sets : List GenSet) (states : List SetState) → barred ≡ barredMask sets states → Rated sets (now (configs .entry)) (now (caps .entry)) → r ≡ greatestUsable sets states 0 0 0 (take configcount (now (configs .entry)))) ⌝ }
 {
     let mut greatest = Greatest { number: 0, most: 0 };
     let mut i: usize = 0;
     while i < configcount {
-        let mask = configs[i] as u32;
+        let mask = wide(configs[i]);
+        let cap = caps[i];
         i += 1;
-        greatest = greater(greatest, sets, barred, mask, i);
+        greatest = greater(greatest, barred, mask, cap, i);
     }
     greatest.number
 }
@@ -126,28 +152,48 @@ fn in_table(configcount: usize) -> usize
     }
 }
 
-// The number of the configuration called in second `now`, after `called`, which is called since second `since`.
+// Whether the called configuration is usable and covers what is held; 0 and a number past the table are no configuration.
+fn called_covers(
+    configs: &[u8; 64],
+    caps: &[u32; 64],
+    barred: u32,
+    held: f64,
+    called: usize,
+) -> bool
+    ensures { λ r. ⌜ ((sets : List GenSet) (states : List SetState) → barred ≡ barredMask sets states → Rated sets (now (configs .entry)) (now (caps .entry)) → r ≡ usableCovering sets states held (maskCalled (now (configs .entry)) called)) ⌝ }
+{
+    if called == 0 {
+        return false;
+    }
+    if called > MOST_CONFIGURATIONS {
+        return false;
+    }
+    let place = called - 1;
+    usable_covering(barred, held, wide(configs[place]), caps[place])
+}
+
+// The number of the configuration called in a second, after `called`, which is called since second `since`, by the mask of the
+// barred sets and each configuration's capacity.
 pub fn chosen(
     st: Station,
-    states: [SetState; 8],
+    caps: &[u32; 64],
+    barred: u32,
     held: f64,
     called: usize,
     since: u32,
-    now: u32,
+    second: u32,
 ) -> usize
-    ensures { λ r. ⌜ r ≡ chosen st states held called since now ⌝ }
+    ensures { λ r. ⌜ ((states : List SetState) → barred ≡ barredMask (st .sets) states → Rated (st .sets) (st .configs) (now (caps .entry)) → r ≡ chosen st states held called since second) ⌝ }
 {
-    let sets = st.sets;
     let configs = st.configs;
-    let barred = barred_mask(sets, states);
-    let recent = over(now as u64, since as u64) < st.control.minseconds as u64;
-    if usable_covering(sets, barred, held, mask_called(configs, called)) & recent {
+    let recent = over(second as u64, since as u64) < st.control.minseconds as u64;
+    if called_covers(&configs, caps, barred, held, called) & recent {
         return called;
     }
     let configcount = in_table(st.configcount);
-    let first = first_covering(sets, configs, configcount, barred, held);
+    let first = first_covering(&configs, caps, configcount, barred, held);
     if 0 < first {
         return first;
     }
-    greatest_usable(sets, configs, configcount, barred)
+    greatest_usable(&configs, caps, configcount, barred)
 }

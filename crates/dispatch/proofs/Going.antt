@@ -1,6 +1,6 @@
 -- The calls of many seconds one after the other, as a loop makes them. Assumes nothing.
 use Prim.Native.Nat.{ℕ, zero, suc, _+_, _-_, _≤_, _<_, min}
-use mathlib.Core.Path.{_≡_, refl, sym, ap, _∙_}
+use mathlib.Core.Path.{_≡_, refl, sym, ap, subst, _∙_}
 use mathlib.Core.Bool.{true}
 use mathlib.Core.List.{List, [], _∷_, _++_, append-nil, append-assoc}
 use native.Mathlib.Omega.{arith}
@@ -132,6 +132,12 @@ module _ (st : Station) (loads solars sheddables rows₀ : List ℕ) (r₀ : Run
           let t = refusal-means (second st r (xAt i) (length (drop at rows))) why (drop at rows) ys (rw a at (o .answers)) (o .leaves) in
           (by-answer ∙ rw (t .0), t .1 ∙ g .rest)
 
+      -- and hands the record back
+      pub hands-back : (why : Refusal) → h .answer ≡ Refused why → h .run ≡ r
+      hands-back why a =
+          let t = refusal-means (second st r (xAt i) (length (drop at rows))) why (drop at rows) ys (rw a at (o .answers)) (o .leaves) in
+          o .hands ∙ ap (recordHanded r) (t .0)
+
       module _ (k : ℕ) (a : h .answer ≡ Row k) where
         told : Written (second st r (xAt i) (length (drop at rows))) k (h .run) (drop at rows) ys
         told = row-means (second st r (xAt i) (length (drop at rows))) r k (h .run) (drop at rows) ys (rw a at (o .answers)) (o .hands) (o .leaves)
@@ -176,7 +182,9 @@ module _ (st : Station) (loads solars sheddables rows₀ : List ℕ) (r₀ : Run
 
   -- the loop's end, as the call owes it
   pub owed : (rows left : List ℕ) (r : Run) (at i : ℕ) (verdict : Verdict) → at ≤ length rows → calls ≡ endedBy r i (take at rows) (verdictOf verdict)
-      → left ≡ take at rows ++ drop at rows₀ → SecondsWorked st r₀ loads solars sheddables rows₀ (record { run = r; seconds = i; bytes = at; verdict = verdict }) left
-  owed rows left r at i verdict h c b =
+      → left ≡ take at rows ++ drop at rows₀ → (first : Run) → r₀ ≡ first → (last : Run) → last ≡ r
+      → SecondsWorked st first loads solars sheddables rows₀ (record { run = last; seconds = i; bytes = at; verdict = verdict }) left
+  owed rows left r at i verdict h c b first p last q =
       let f = length-front rows at h in
-      record { hands = rw c; counts = rw c; measures = rw (c, f); ends = rw c; leaves = rw (c, f) b }
+      subst (λ (z : Run). SecondsWorked st z loads solars sheddables rows₀ (record { run = last; seconds = i; bytes = at; verdict = verdict }) left) p
+      (record { hands = q ∙ rw c; counts = rw c; measures = rw (c, f); ends = rw c; leaves = rw (c, f) b })

@@ -1,6 +1,6 @@
 -- What the steps of an admitted second may take for granted: every sum fits, every set that is On has passed its checks, and
 -- what is left of the load is not negative. Assumes nothing.
-use Prim.Native.Nat.{ℕ, zero, suc, _-_, _*_, _≤_, _<_}
+use Prim.Native.Nat.{ℕ, zero, suc, _-_, _*_, _≤_, _<_, min}
 use mathlib.Core.Path.{_≡_, refl, sym, ap, _∙_}
 use mathlib.Core.Bool.{Bool, true, false}
 use mathlib.Core.List.{List, [], _∷_}
@@ -20,8 +20,8 @@ use Rattle.rules.specs.declared.run.Run.{Run}
 use Rattle.rules.specs.declared.run.Totals.{Totals}
 use Rattle.rules.specs.declared.run.Watts.{Watts}
 use Rattle.rules.specs.Numbers.{if_then_else_, all, every, allZero}
-use Rattle.rules.specs.StationRecord.{setAt, setRight, pairsRight}
-use Rattle.rules.specs.Share.{share}
+use Rattle.rules.specs.StationRecord.{setAt, setRight, pairsRight, someFileGives}
+use Rattle.rules.specs.Share.{capacity, share}
 use Rattle.rules.specs.Modes.{fresh, stateAt, isOff, isOn, tickFrom, tick, ticked}
 use Rattle.rules.specs.Flows.{dieselFor, wattsWith, wattsFor, restOf}
 use Rattle.rules.specs.Setpoint.{coverageOf, reserve, wantedFor}
@@ -38,6 +38,7 @@ use Rattle.laws.proofs.StationAt.{set-at}
 use Rattle.laws.proofs.KeptRest.{chosen-most, watts-small}
 use Rattle.laws.proofs.KeptSets.{Within, from-rules, tick-counts, off-only}
 use Rattle.gensets.proofs.FileCapacity.{rating-most, capacity-most}
+use Rattle.commitment.specs.Choice.{capacities, Rated}
 use Rattle.dispatch.specs.Sized.{Small, CountableAll, Wantable, Switchable, SwitchableAll, SmallTotals}
 
 -- ---- the counts of a set, by the seconds done
@@ -105,6 +106,19 @@ pub wanted-small : (c : Control) (w : Watts) (sheddable : ℕ) → Wantable c w 
 unfolding wantedFor
 wanted-small c w sheddable h =
     omega (arith, h .load-most, reserve-small c (w .solar) (sheddable - w .shed) 50_000_000 (h .spinning-most) (le-trans (coverage-small c (w .solar) (h .coverage-most)) (h .solar-most)))
+
+-- ---- the capacities of a station's configurations
+
+pub rated : (st : Station) → Tables st → someFileGives st ≡ true → (caps : List ℕ) → caps ≡ capacities (st .sets) (st .configs) → Rated (st .sets) (st .configs) caps
+unfolding capacities
+rated st tables given caps e =
+    record {
+      size = tables .configs-length;
+      each = λ j l.
+          ap (λ (x : List ℕ). getD x j 0) e
+          ∙ tab-at (λ k. min (capacity (st .sets) (getD (st .configs) k 0)) 4_294_967_295) 64 j 0 l
+          ∙ (let m = capacity-most st given (getD (st .configs) j 0) in let z : min (capacity (st .sets) (getD (st .configs) j 0)) 4_294_967_295 ≡ capacity (st .sets) (getD (st .configs) j 0) = omega (arith, m) in z);
+    }
 
 -- ---- the station and the record of an admitted second
 

@@ -3,7 +3,8 @@ use Prim.Native.Nat.{ℕ, _+_, _≤_, max}
 use mathlib.Core.Path.{_≡_, refl, sym, ap, _∙_}
 use mathlib.Core.List.{List}
 use native.Mathlib.Omega.{arith}
-use lib.ListN.{getD}
+use lib.ListN.{length, getD}
+use borrow.Author.Tests.{eq-eqb}
 use lib.Count.{ones}
 use Rattle.rules.specs.declared.station.Station.{Station}
 use Rattle.rules.specs.declared.run.Held.the-variants.{At}
@@ -15,6 +16,7 @@ use Rattle.rules.specs.declared.run.Watts.{Watts}
 use Rattle.rules.specs.Share.{capacity}
 use Rattle.rules.specs.Modes.{ticked, onMask}
 use Rattle.rules.specs.Flows.{percent, floorLoad, wattsFor, storeAfter, restOf, shedDecided, decidedAfter}
+use Rattle.flows.specs.Amounts.{decidedIn}
 use Rattle.rules.specs.Commands.{countedAll, commandedAll}
 use Rattle.rules.specs.Setpoint.{wantedFor, heldAfter}
 use Rattle.rules.specs.Configuration.{maskCalled, chosen, sinceAfter}
@@ -22,7 +24,11 @@ use Rattle.rules.specs.Second.{statesNow, onNow, capNow, floorNow, wattsNow, st
 use Rattle.dispatch.specs.declared.supply.Supplied.{Supplied}
 use Rattle.dispatch.specs.declared.commit.Committed.{Committed}
 use Rattle.dispatch.specs.Supply.{SuppliedNow}
+use Rattle.rules.specs.declared.run.Row.{Row}
+use Rattle.rules.specs.declared.run.Step.{Step}
+use Rattle.dispatch.specs.declared.step.Stepped.{Stepped}
 use Rattle.dispatch.specs.Commit.{CommittedNow}
+use Rattle.dispatch.specs.Parts.{runOf, SteppedTo}
 
 module _ (st : Station) (r : Run) (x : Inputs) where
   -- 1 and 2
@@ -52,12 +58,12 @@ module _ (st : Station) (r : Run) (x : Inputs) where
 
       -- 7
       pub decided-now : (new : ℕ) (amounts : List ℕ) → 1 ≤ st .control .delay → new ≡ shedDecided (st .control) cap (x .load) (w .solar) (x .sheddable)
-          → amounts ≡ decidedAfter (max 1 (st .control .delay)) (r .decided) new → amounts ≡ decidedNow st r x (wattsNow st r x)
-      unfolding decidedNow
-      decided-now new amounts some n a =
+          → length (r .decided) ≡ 60 → amounts ≡ decidedIn (st .control .delay) new (r .decided) → amounts ≡ decidedNow st r x (wattsNow st r x)
+      unfolding decidedNow decidedIn
+      decided-now new amounts some n size a =
           let d : max 1 (st .control .delay) ≡ st .control .delay = omega arith in
           let e : new ≡ shedDecided (st .control) (capNow st r) (x .load) (wattsNow st r x .solar) (x .sheddable) = n ∙ rw (cap-now, watts-now) in
-          a ∙ rw (d, e)
+          a ∙ rw (eq-eqb (length (r .decided)) 60 size, d, e)
 
       pub store-now : (store : ℕ) → store ≡ storeAfter (st .battery) (r .store) (w .charge) (w .give) → store ≡ storeNow st r (wattsNow st r x)
       unfolding storeNow
@@ -69,7 +75,7 @@ module _ (st : Station) (r : Run) (x : Inputs) where
       ran-now ran c = c ∙ rw (states-now, on-now, watts-now)
 
   -- 9 to 11, and the record and the row after them
-  module _ (s : Supplied) (h : SuppliedNow st r x (wattsNow st r x) s) (wanted : ℕ) (e : wanted ≡ wantedFor (st .control) (restOf (s .watts)) (s .watts .solar) (s .watts .shed) (x .sheddable))
+  module _ (s : Supplied) (amounts : List ℕ) (h : SuppliedNow st r x (wattsNow st r x) s amounts) (wanted : ℕ) (e : wanted ≡ wantedFor (st .control) (restOf (s .watts)) (s .watts .solar) (s .watts .shed) (x .sheddable))
       (c : Committed) (k : CommittedNow st (s .states) (r .setpoint) wanted (r .called) (r .since) (r .done) c) where
     abbrev w : Watts
     w = wattsNow st r x
@@ -88,8 +94,16 @@ module _ (st : Station) (r : Run) (x : Inputs) where
 
     pub step-now : (since : ℕ) → since ≡ sinceAfter (c .call) (r .called) (r .since) (r .done) → (sums : Totals) → sums ≡ plus (r .totals) (s .watts)
         → record {
-          run = record { done = r .done + 1; since = since; called = c .call; store = s .store; setpoint = At (c .held); sets = c .states; decided = s .decided; totals = sums };
+          run = record { done = r .done + 1; since = since; called = c .call; store = s .store; setpoint = At (c .held); sets = c .states; decided = amounts; totals = sums };
           row = record { second = r .done; watts = s .watts; on = s .on; sets = ones (s .on); call = c .call; store = s .store };
         } ≡ step st r x
     unfolding step recordAfter rowAfter
-    step-now since f sums t = rw (f, t, commanded-now, held-now, call-now, h .store, h .decided, h .on, h .watts)
+    step-now since f sums t = rw (f, t, commanded-now, held-now, call-now, h .store, h .amounts, h .on, h .watts)
+
+  abbrev pub stepOf : Run → Row → Step
+  stepOf run row = record { run = run; row = row }
+
+  -- the parts after the steps are those of the definition
+  pub stepped-is : (s : Stepped) (amounts : List ℕ) → SteppedTo st r x s amounts → stepOf (runOf (s .moment) (s .states) amounts) (s .row) ≡ step st r x
+  stepped-is s amounts h =
+      ap (λ (z : Run). stepOf z (s .row)) (h .after) ∙ ap (stepOf (step st r x .run)) (h .row)

@@ -2,6 +2,7 @@
 ghost use mathlib.Core.Path.{_≡_};
 ghost use Rattle.rules.specs.Flows.{restOf};
 ghost use Rattle.rules.specs.Setpoint.{wantedFor};
+ghost use Rattle.commitment.specs.Choice.{Rated};
 ghost use Rattle.dispatch.specs.Sized.{SwitchableAll, Wantable};
 ghost use Rattle.dispatch.specs.Commit.{CommittedNow};
 use crate::commands::command_all;
@@ -9,6 +10,7 @@ use commitment::configuration::chosen;
 use commitment::configuration::mask_called;
 use commitment::setpoint::held_after;
 use commitment::setpoint::wanted_for;
+use modes::masks::barred_mask;
 use rules::run::Held;
 use rules::run::SetState;
 use rules::run::Watts;
@@ -33,21 +35,23 @@ pub(crate) struct Committed {
 
 pub(crate) fn commit(
     st: Station,
+    caps: &[u32; 64],
     states: [SetState; 8],
     setpoint: Held,
     wanted: u32,
     called: usize,
     since: u32,
-    now: u32,
+    second: u32,
 ) -> Committed
-    requires { ⌜ SwitchableAll states ⌝ }
-    ensures { λ r. ⌜ CommittedNow st states setpoint wanted called since now r ⌝ }
+    requires { ⌜ SwitchableAll states × Rated (st .sets) (st .configs) (now caps) ⌝ }
+    ensures { λ r. ⌜ CommittedNow st states setpoint wanted called since second r ⌝ }
 {
     let control = st.control;
     let sets = st.sets;
     let configs = st.configs;
     let held = held_after(control.k, setpoint, wanted);
-    let call = chosen(st, states, held, called, since, now);
+    let barred = barred_mask(sets, states);
+    let call = chosen(st, caps, barred, held, called, since, second);
     let commanded = command_all(sets, states, mask_called(configs, call));
     Committed {
         held,

@@ -1,9 +1,10 @@
 // Step 8: what a second adds to the counts of each set.
 ghost use mathlib.Core.Path.{_≡_};
+ghost use Rattle.rules.specs.Share.{capacity};
+ghost use Rattle.rules.specs.Modes.{onMask};
 ghost use Rattle.rules.specs.Commands.{counted, countedAll};
 ghost use Rattle.dispatch.specs.Sized.{Countable, CountableAll};
 use gensets::fuel::fuel_rate;
-use gensets::share::shares;
 use modes::mode::is_on;
 use rules::answers::Amount;
 use rules::run::SetState;
@@ -34,25 +35,35 @@ fn count(genset: GenSet, state: SetState, power: u32) -> SetState
     }
 }
 
-// Every set's counts, each at its share of the diesel power.
+// Every set's counts, each at its share of the diesel power, where the mask has the sets On and `cap` is their capacity.
 pub(crate) fn count_all(
     sets: [GenSet; 8],
     states: [SetState; 8],
     mask: u32,
     diesel: u32,
+    cap: u64,
 ) -> [SetState; 8]
-    requires { ⌜ CountableAll sets states mask diesel ⌝ }
+    requires { ⌜ CountableAll sets states mask diesel × (cap ≡ capacity sets mask) × (mask ≡ onMask states) ⌝ }
     ensures { λ r. ⌜ r ≡ countedAll sets states mask diesel ⌝ }
 {
-    let shared = shares(sets, mask, diesel);
-    let watts = shared.watts;
     let mut out = states;
+    let mut sum: u64 = 0;
+    let mut given: u64 = 0;
     let mut i: usize = 0;
     while i < 8 {
-        let genset = sets[i];
-        let state = out[i];
-        out[i] = count(genset, state, watts[i]);
+        let at = i;
         i += 1;
+        let genset = sets[at];
+        let state = out[at];
+        let mode = state.mode;
+        if is_on(mode) {
+            sum += genset.rating as u64;
+            // each less what the sets before it took: rounded alone, the shares would miss the diesel power
+            let upto = (diesel as u64) * sum / cap;
+            let power = (upto - given) as u32;
+            given = upto;
+            out[at] = count(genset, state, power);
+        }
     }
     out
 }

@@ -2,6 +2,7 @@
 mod commands;
 mod commit;
 mod counts;
+mod parts;
 pub mod second;
 pub mod seconds;
 mod step;

@@ -5,6 +5,11 @@ ghost use Rattle.rules.specs.Answers.{verdictOf};
 ghost use Rattle.rules.specs.StationRecord.{someFileGives};
 ghost use Rattle.rules.specs.RunRecord.{possible};
 ghost use Rattle.rules.specs.Second.{inputsRight, admitted, Second};
+ghost use lib.ListN.{length};
+ghost use Rattle.commitment.specs.Choice.{Rated};
+ghost use Rattle.dispatch.specs.Parts.{runOf, handedOf};
+use crate::parts::Moment;
+use crate::seconds::judged_seconds;
 use crate::step::step;
 use records::possible::possible;
 use rows::row::put_row;
@@ -17,6 +22,7 @@ use rules::limits::MOST_SECONDS;
 use rules::run::Handed;
 use rules::run::Inputs;
 use rules::run::Run;
+use rules::run::SetState;
 use rules::station::Station;
 use station::record::some_file_gives;
 
@@ -48,23 +54,44 @@ fn admit(done: u32, inputs: Inputs, room: usize) -> Verdict
     Verdict::Accepted
 }
 
-// A second whose station and record were judged before: what `second` owes.
-pub(crate) fn judged_second(st: Station, run: Run, inputs: Inputs, row: &mut [u8]) -> Handed
-    requires { ⌜ (someFileGives st ≡ true) × (possible st run ≡ true) ⌝ }
-    ensures { λ r. ⌜ Second st run inputs (now (row .entry)) r (now (row .exit)) ⌝ }
+// The answer, and the record after it but for the decided amounts.
+pub(crate) struct Judged {
+    pub(crate) answer: Outcome,
+    pub(crate) moment: Moment,
+    pub(crate) states: [SetState; 8],
+}
+
+// A second whose station and record were judged before, on the record in parts: what `second` owes.
+pub(crate) fn judged_second(
+    st: Station,
+    caps: &[u32; 64],
+    states: [SetState; 8],
+    moment: Moment,
+    inputs: Inputs,
+    decided: &mut [u32],
+    row: &mut [u8],
+) -> Judged
+    requires { ⌜ (someFileGives st ≡ true) × (possible st (runOf moment states (now decided)) ≡ true) × Rated (st .sets) (st .configs) (now caps) × (length (now decided) ≡ 60) ⌝ }
+    ensures { λ r. ⌜ Second st (runOf moment states (now (decided .entry))) inputs (now (row .entry)) (handedOf r (now (decided .exit))) (now (row .exit)) ⌝ }
 {
-    let verdict = admit(run.done, inputs, row.len());
+    let verdict = admit(moment.done, inputs, row.len());
     if let Verdict::Refused(refusal) = verdict {
-        return Handed {
+        return Judged {
             answer: Outcome::Refused(refusal),
-            run,
+            moment,
+            states,
         };
     }
-    let worked = step(st, run, inputs);
-    let next = worked.run;
+    let worked = step(st, caps, states, moment, inputs, decided);
+    let next = worked.moment;
+    let after = worked.states;
     let line = worked.row;
     let answer = put_row(line, row);
-    Handed { answer, run: next }
+    Judged {
+        answer,
+        moment: next,
+        states: after,
+    }
 }
 
 // One second. A refused one hands the record back and leaves the buffer as they were.
@@ -83,5 +110,20 @@ pub fn second(st: Station, run: Run, inputs: Inputs, row: &mut [u8]) -> Handed
             run,
         };
     }
-    judged_second(st, run, inputs, row)
+    let loads = [inputs.load];
+    let solars = [inputs.solar];
+    let sheddables = [inputs.sheddable];
+    let worked = judged_seconds(st, run, &loads, &solars, &sheddables, row);
+    let after = worked.run;
+    let verdict = worked.verdict;
+    if let Verdict::Refused(refusal) = verdict {
+        return Handed {
+            answer: Outcome::Refused(refusal),
+            run: after,
+        };
+    }
+    Handed {
+        answer: Outcome::Row(worked.bytes),
+        run: after,
+    }
 }

@@ -6,7 +6,10 @@ ghost use lib.ListN.{length};
 ghost use Rattle.rules.specs.StationRecord.{someFileGives};
 ghost use Rattle.rules.specs.RunRecord.{possible};
 ghost use Rattle.dispatch.specs.Seconds.{SecondsWorked};
+use crate::parts::moment_of;
+use crate::parts::whole;
 use crate::second::judged_second;
+use commitment::configuration::capacities;
 use records::possible::possible;
 use rules::answers::Outcome;
 use rules::answers::Refusal;
@@ -38,7 +41,7 @@ fn places(loads: &[u32], solars: &[u32], sheddables: &[u32]) -> usize
 }
 
 // The seconds of a station and a record that were judged: neither is asked again, since a second leaves a possible record.
-fn judged_seconds(
+pub(crate) fn judged_seconds(
     st: Station,
     run: Run,
     loads: &[u32],
@@ -50,7 +53,12 @@ fn judged_seconds(
     ensures { λ r. ⌜ SecondsWorked st run (now (loads .entry)) (now (solars .entry)) (now (sheddables .entry)) (now (rows .entry)) r (now (rows .exit)) ⌝ }
 {
     let asked = places(loads, solars, sheddables);
-    let mut latest = run;
+    let sets = st.sets;
+    let configs = st.configs;
+    let caps = capacities(sets, configs);
+    let mut states = run.sets;
+    let mut decided = run.decided;
+    let mut moment = moment_of(run);
     let mut at: usize = 0;
     let mut i: usize = 0;
     while i < asked {
@@ -59,17 +67,26 @@ fn judged_seconds(
             solar: solars[i],
             sheddable: sheddables[i],
         };
-        let handed = judged_second(st, latest, inputs, &mut rows[at..]);
+        let handed = judged_second(
+            st,
+            &caps,
+            states,
+            moment,
+            inputs,
+            &mut decided,
+            &mut rows[at..],
+        );
         let answer = handed.answer;
         match answer {
             Outcome::Row(size) => {
-                latest = handed.run;
+                moment = handed.moment;
+                states = handed.states;
                 at += size;
                 i += 1;
             }
             Outcome::Refused(refusal) => {
                 return Worked {
-                    run: latest,
+                    run: whole(moment, states, decided),
                     seconds: i,
                     bytes: at,
                     verdict: Verdict::Refused(refusal),
@@ -78,7 +95,7 @@ fn judged_seconds(
         }
     }
     Worked {
-        run: latest,
+        run: whole(moment, states, decided),
         seconds: i,
         bytes: at,
         verdict: Verdict::Accepted,

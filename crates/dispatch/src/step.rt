@@ -1,17 +1,19 @@
 // The eleven steps of a second that nothing refuses: the record after it, and its row.
 ghost use mathlib.Core.Path.{_≡_};
 ghost use Rattle.rules.specs.Configuration.{sinceAfter};
-ghost use Rattle.rules.specs.Second.{step};
 ghost use Rattle.laws.specs.Admitted.{Admitted};
+ghost use lib.ListN.{length};
+ghost use Rattle.commitment.specs.Choice.{Rated};
+ghost use Rattle.dispatch.specs.Parts.{runOf, SteppedTo};
 use crate::commit::commit;
 use crate::commit::wanted_now;
+use crate::parts::Moment;
 use crate::supply::supply;
 use crate::totals::plus;
 use rules::run::Held;
 use rules::run::Inputs;
 use rules::run::Row;
-use rules::run::Run;
-use rules::run::Step;
+use rules::run::SetState;
 use rules::station::Station;
 
 // "The since-second changes only when the number does."
@@ -21,39 +23,57 @@ fn since_after(call: usize, called: usize, since: u32, now: u32) -> u32
     if call == called { since } else { now }
 }
 
-pub(crate) fn step(st: Station, run: Run, inputs: Inputs) -> Step
-    requires { ⌜ Admitted st run inputs ⌝ }
-    ensures { λ r. ⌜ r ≡ step st run inputs ⌝ }
+// What the steps come to: the record after them but for the decided amounts, and the row.
+pub(crate) struct Stepped {
+    pub(crate) moment: Moment,
+    pub(crate) states: [SetState; 8],
+    pub(crate) row: Row,
+}
+
+pub(crate) fn step(
+    st: Station,
+    caps: &[u32; 64],
+    before: [SetState; 8],
+    moment: Moment,
+    inputs: Inputs,
+    decided: &mut [u32],
+) -> Stepped
+    requires { ⌜ Admitted st (runOf moment before (now decided)) inputs × Rated (st .sets) (st .configs) (now caps) × (length (now decided) ≡ 60) ⌝ }
+    ensures { λ r. ⌜ SteppedTo st (runOf moment before (now (decided .entry))) inputs r (now (decided .exit)) ⌝ }
 {
     let control = st.control;
-    let setpoint = run.setpoint;
-    let totals = run.totals;
-    let supplied = supply(st, run, inputs);
+    let setpoint = moment.setpoint;
+    let totals = moment.totals;
+    let called = moment.called;
+    let since = moment.since;
+    let done = moment.done;
+    let supplied = supply(st, before, moment, inputs, decided);
     let watts = supplied.watts;
     let ran = supplied.states;
-    let decided = supplied.decided;
     let wanted = wanted_now(control, watts, inputs.sheddable);
-    let committed = commit(st, ran, setpoint, wanted, run.called, run.since, run.done);
+    let committed = commit(st, caps, ran, setpoint, wanted, called, since, done);
     let states = committed.states;
     let call = committed.call;
     let sums = plus(totals, watts);
-    let next = Run {
-        done: run.done + 1,
-        since: since_after(call, run.called, run.since, run.done),
+    let next = Moment {
+        done: done + 1,
+        since: since_after(call, called, since, done),
         called: call,
         store: supplied.store,
         setpoint: Held::At(committed.held),
-        sets: states,
-        decided,
         totals: sums,
     };
     let row = Row {
-        second: run.done,
+        second: done,
         watts,
         on: supplied.on,
         sets: u32::count_ones(supplied.on),
         call: call as u32,
         store: supplied.store,
     };
-    Step { run: next, row }
+    Stepped {
+        moment: next,
+        states,
+        row,
+    }
 }

@@ -1,7 +1,9 @@
 // Step 7: the shed amount decided, and the amounts held until their delay is over (step 3).
 ghost use mathlib.Core.Path.{_≡_};
 ghost use Prim.Native.Nat.{_≤_, min, max};
+ghost use lib.ListN.{length};
 ghost use Rattle.rules.specs.Flows.{shedDecided, decidedAfter};
+ghost use Rattle.flows.specs.Amounts.{decidedIn};
 use crate::arithmetic::at_most;
 use crate::arithmetic::over;
 use crate::arithmetic::over_u64;
@@ -31,23 +33,24 @@ fn moving(delay: u32) -> usize
 }
 
 // The oldest goes, and the new one is the last of the first `count`.
-fn moved(count: usize, amounts: [u32; 60], new: u32) -> [u32; 60]
-    requires { ⌜ (1 ≤ count) × (count ≤ 60) ⌝ }
-    ensures { λ r. ⌜ r ≡ decidedAfter count amounts new ⌝ }
+fn move_amounts(count: usize, new: u32, after: &mut [u32])
+    requires { ⌜ (1 ≤ count) × (count ≤ length (now after)) ⌝ }
+    ensures { λ r. ⌜ now (after .exit) ≡ decidedAfter count (now (after .entry)) new ⌝ }
 {
-    let mut after = amounts;
     let mut i: usize = 1;
     while i < count {
         after[i - 1] = after[i];
         i += 1;
     }
     after[count - 1] = new;
-    after
 }
 
-// The decided amounts, oldest first, once another is decided.
-pub fn decided_after(delay: u32, amounts: [u32; 60], new: u32) -> [u32; 60]
-    ensures { λ r. ⌜ r ≡ decidedAfter (max 1 delay) amounts new ⌝ }
+// The decided amounts, oldest first, once another is decided: of sixty amounts the first that the delay has, in place. Other than sixty
+// are left as they are.
+pub fn decide(delay: u32, new: u32, amounts: &mut [u32])
+    ensures { λ r. ⌜ now (amounts .exit) ≡ decidedIn delay new (now (amounts .entry)) ⌝ }
 {
-    moved(moving(delay), amounts, new)
+    if amounts.len() == 60 {
+        move_amounts(moving(delay), new, amounts);
+    }
 }

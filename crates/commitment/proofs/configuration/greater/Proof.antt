@@ -10,22 +10,19 @@ usable-requires c κs = search needs
 
 returns : tie.Need-returns
 unfolding greater
-returns c = λ states e. simp (← c .before .usable .ensures (c .before .before .args .sets) states e, not-true (c .before .usable .result) (c .if1 .taken))
-
-capacity-requires : tie.Need-capacity-requires
-capacity-requires c κs = search needs
+returns c = λ sets states e rated. simp (← c .before .usable .ensures sets states e, not-true (c .before .usable .result) (c .if1 .taken))
 
 returns-2 : tie.Need-returns-2
 unfolding greater
-returns-2 c = λ states e.
-    let first = c .before .before .before .before in
-    simp (← first .usable .ensures (first .before .args .sets) states e, not-false (first .usable .result) (c .before .before .before .if1 .left), ← c .before .before .capacity .ensures, lt-ltb _ _ (c .if2 .taken))
+returns-2 c = λ sets states e rated.
+    let first = c .before .before .before in
+    simp (← first .usable .ensures sets states e, not-false (first .usable .result) (c .before .before .if1 .left), ← rated, lt-ltb _ _ (c .if2 .taken))
 
 returns-3 : tie.Need-returns-3
 unfolding greater
-returns-3 c = λ states e.
-    let first = c .before .before .before .before in
-    simp (← first .usable .ensures (first .before .args .sets) states e, not-false (first .usable .result) (c .before .before .before .if1 .left), ← c .before .before .capacity .ensures, le-ltb _ _ (c .if2 .left))
+returns-3 c = λ sets states e rated.
+    let first = c .before .before .before in
+    simp (← first .usable .ensures sets states e, not-false (first .usable .result) (c .before .before .if1 .left), ← rated, le-ltb _ _ (c .if2 .left))
 
 pub greater-spec : {M : Type 1} → statement M
-greater-spec = tie.close (tie.spec usable-requires returns capacity-requires returns-2 returns-3)
+greater-spec = tie.close (tie.spec usable-requires returns returns-2 returns-3)

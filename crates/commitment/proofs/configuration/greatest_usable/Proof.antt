@@ -1,35 +1,44 @@
 -- `commitment::configuration::greatest_usable` meets its contract: what is left of the configurations decides. Assumes nothing.
-use borrow.Author.Needs.{needs}
 use Prim.Native.Nat.{_-_, _≤_}
-use mathlib.Core.Path.{_≡_, refl}
+use mathlib.Core.Path.{_≡_, refl, sym, _∙_}
 use mathlib.Core.List.{List}
+use native.Mathlib.Omega.{arith}
+use denote.Ref.{now}
 use lib.ListN.{length, take, drop}
+use Rattle.rules.specs.declared.station.GenSet.{GenSet}
 use Rattle.rules.specs.declared.run.SetState.{SetState}
-use Rattle.rules.specs.Configuration.{greatestUsable}
 use Rattle.modes.specs.Barred.{barredMask}
+use Rattle.commitment.specs.Choice.{Rated}
+use Rattle.rules.specs.Configuration.{greatestUsable}
 use Rattle.commitment.proofs.Choices.{greatest-turn, greatest-end}
+use borrow.Author.Needs.{needs}
 use Rattle.commitment.proofs.configuration.greatest_usable.Statement.{statement}
 use Rattle.commitment.proofs.configuration.greatest_usable.Tie as tie
 
 abbrev Inv-loop : tie.InvT-loop
-Inv-loop sets configcount barred configs greatest₀ i₀ greatest i =
-    (configcount ≤ length configs)
-    × (configcount ≤ 64)
-    × ((states : List SetState) → barred ≡ barredMask sets states
+Inv-loop configs caps configcount barred greatest₀ i₀ greatest i =
+    (configcount ≤ 64)
+    × ((sets : List GenSet) (states : List SetState) → barred ≡ barredMask sets states → Rated sets configs caps
     → greatestUsable sets states 0 0 0 (take configcount configs)
     ≡ greatestUsable sets states (greatest .number) (greatest .most) i (drop i (take configcount configs)))
 
 abbrev μ-loop : tie.MeasureT-loop
-μ-loop sets configcount barred configs greatest₀ i₀ greatest i = configcount - i
+μ-loop configs caps configcount barred greatest₀ i₀ greatest i = configcount - i
 
 loop-holds : tie.Need-loop-holds Inv-loop μ-loop
-loop-holds c = (search needs, c .pre, λ states e. refl)
+loop-holds c = (c .pre, λ sets states e rated. refl)
 
-array-read-mask : tie.Need-array-read-mask Inv-loop μ-loop
-array-read-mask c = search needs
+element-copy-out-wide : tie.Need-element-copy-out-wide Inv-loop μ-loop
+element-copy-out-wide c = search needs
 
-cast-mask : tie.Need-cast-mask Inv-loop μ-loop
-cast-mask c = search needs
+wide-requires : tie.Need-wide-requires Inv-loop μ-loop
+wide-requires c κs = search needs
+
+mul-cap : tie.Need-mul-cap Inv-loop μ-loop
+mul-cap c = search needs
+
+element-copy-out-cap : tie.Need-element-copy-out-cap Inv-loop μ-loop
+element-copy-out-cap c = search needs
 
 add-i : tie.Need-add-i Inv-loop μ-loop
 add-i c = search needs
@@ -42,18 +51,19 @@ loop-less c = search needs
 
 loop-again : tie.Need-loop-again Inv-loop μ-loop
 loop-again c =
-    let at = c .before .before in
+    let wide = c .before .before in
+    let at = wide .before .before .before in
     let a = at .before .args in (
       at .loop .inv .0,
-      at .loop .inv .1,
-      λ states e. greatest-turn (a .sets) states (a .t2) (a .configcount) (at .loop .i) (at .loop .inv .0) (at .loop .greatest) _ (at .loop .inv .2 states e) _ (search needs) (c .greater .ensures states e),
+      λ sets states e rated. greatest-turn sets states (now (a .configs)) (a .configcount) (at .loop .i) (omega (arith, rated .size, at .loop .inv .0)) (at .loop .greatest) _ (at .loop .inv .1 sets states e rated) _ (search needs)
+          (c .greater .ensures sets states e (rated .each (at .loop .i) (omega (arith, at .loop .inv .0)) ∙ rw (wide .wide .ensures)) ∙ rw (wide .wide .ensures)),
     )
 
 returns : tie.Need-returns Inv-loop μ-loop
-returns c = λ states e.
+returns c = λ sets states e rated.
     let at = c .before in
     let a = at .before .args in
-    greatest-end (a .sets) states (a .t2) (a .configcount) (at .loop .i) (at .loop .inv .0) (at .loop .greatest) _ (at .loop .inv .2 states e) (search needs)
+    greatest-end sets states (now (a .configs)) (a .configcount) (at .loop .i) (omega (arith, rated .size, at .loop .inv .0)) (at .loop .greatest) _ (at .loop .inv .1 sets states e rated) (search needs)
 
 pub greatest-usable-spec : {M : Type 1} → statement M
 greatest-usable-spec =
@@ -62,8 +72,10 @@ greatest-usable-spec =
     Inv-loop
     μ-loop
     loop-holds
-    array-read-mask
-    cast-mask
+    element-copy-out-wide
+    wide-requires
+    mul-cap
+    element-copy-out-cap
     add-i
     greater-requires
     loop-less

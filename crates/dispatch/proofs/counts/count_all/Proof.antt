@@ -1,61 +1,30 @@
 -- `dispatch::counts::count_all` meets its contract. Assumes nothing.
 use borrow.Author.Needs.{needs}
-use Prim.Native.Nat.{ℕ, _+_, _-_, _≤_, _<_}
-use mathlib.Core.Path.{_≡_, refl, sym, ap, _∙_}
-use mathlib.Core.List.{List}
+use Prim.Native.Nat.{ℕ, _-_, _<_}
+use mathlib.Core.Path.{_≡_, sym, _∙_}
 use native.Mathlib.Omega.{arith}
-use lib.ListN.{length, getD, replicate}
-use Rattle.rules.specs.declared.station.GenSet.{GenSet}
-use Rattle.rules.specs.declared.run.Mode.the-variants.{Off}
-use Rattle.rules.specs.declared.run.SetState.{SetState}
-use Rattle.rules.specs.Numbers.{tab}
-use Rattle.rules.specs.Answers.{valueOr}
+use lib.ListN.{length}
 use Rattle.rules.specs.StationRecord.{pastEnd, setAt}
-use Rattle.rules.specs.Share.{share}
-use Rattle.rules.specs.Modes.{fresh, stateAt}
-use Rattle.rules.specs.Commands.{counted, countedAll}
-use Rattle.rules.proofs.Tables.{tab-at, length-tab}
-use Rattle.laws.proofs.Share.{share-most}
-use Rattle.gensets.specs.Leaves.{sharesAsked}
-use Rattle.gensets.proofs.SharesAsked.{asked-within}
-use Rattle.dispatch.specs.Sized.{Countable, CountableAll}
-use Rattle.modes.proofs.Filled.{Filling, filling-start, filling-at, filling-more, filling-whole}
+use Rattle.rules.specs.Modes.{stateAt}
+use Rattle.rules.specs.Commands.{countedAll}
+use Rattle.modes.proofs.Filled.{filling-whole}
+use Rattle.dispatch.proofs.Counting.{Asked, Counting, asked-of, counting-start, counting-kept, counting-more, sum-small, product-small, some-capacity, given-rises, takes-rating, rating-small, countable-here}
 use Rattle.dispatch.proofs.counts.count_all.Statement.{statement}
 use Rattle.dispatch.proofs.counts.count_all.Tie as tie
 
--- the set at a place after the second
-abbrev countedAt : List GenSet → List SetState → ℕ → ℕ → ℕ → SetState
-countedAt sets states mask diesel i = counted (setAt sets i) (stateAt states i) (share sets mask diesel i)
-
-module _ (sets : List GenSet) (states : List SetState) (mask diesel : ℕ) (h : CountableAll sets states mask diesel) where
-  shared : (watts : List ℕ) → watts ≡ valueOr (replicate 8 0) (sharesAsked sets mask diesel) → watts ≡ tab 8 (share sets mask diesel)
-  shared watts e = e ∙ rw (asked-within sets mask diesel (h .capacity-most) (h .diesel-most))
-
-  module _ (watts : List ℕ) (e : watts ≡ tab 8 (share sets mask diesel)) (i : ℕ) (l : i < 8) where
-    power-is : getD watts i 0 ≡ share sets mask diesel i
-    power-is = ap (λ (w : List ℕ). getD w i 0) e ∙ tab-at (share sets mask diesel) 8 i 0 l
-
-    countable : Countable (setAt sets i) (stateAt states i) (getD watts i 0)
-    countable = record {
-      numbers = h .numbers i l;
-      pairs = h .pairs i l;
-      power-most = rw power-is (share-most sets mask diesel (h .diesel-most) i);
-      small = h .small i l;
-    }
-
 abbrev Inv-loop : tie.InvT-loop
-Inv-loop mask diesel sets watts out₀ i₀ out i =
-    CountableAll sets out₀ mask diesel × (watts ≡ tab 8 (share sets mask diesel)) × Filling (countedAt sets out₀ mask diesel) out₀ 8 i out
+Inv-loop mask diesel cap sets out₀ sum₀ given₀ i₀ out sum given i = Asked sets out₀ mask diesel cap × Counting sets out₀ mask diesel cap i sum given out
 
 abbrev μ-loop : tie.MeasureT-loop
-μ-loop mask diesel sets watts out₀ i₀ out i = 8 - i
-
-shares-requires : tie.Need-shares-requires Inv-loop μ-loop
-shares-requires c κs = search needs
+μ-loop mask diesel cap sets out₀ sum₀ given₀ i₀ out sum given i = 8 - i
 
 loop-holds : tie.Need-loop-holds Inv-loop μ-loop
 loop-holds c =
-    (c .before .before .pre, shared _ _ _ _ (c .before .before .pre) _ (c .before .shares .ensures .1), filling-start _ _ 8 (search needs))
+    let asked = asked-of (c .pre .0) (c .pre .1) (c .pre .2) in
+    (asked, counting-start asked (search needs))
+
+add-i : tie.Need-add-i Inv-loop μ-loop
+add-i c = omega arith
 
 mul-genset : tie.Need-mul-genset Inv-loop μ-loop
 mul-genset c = omega arith
@@ -69,18 +38,59 @@ mul-state c = omega arith
 array-copy-out-state : tie.Need-array-copy-out-state Inv-loop μ-loop
 array-copy-out-state c = omega arith
 
-mul-count : tie.Need-mul-count Inv-loop μ-loop
-mul-count c = omega arith
+is-on-requires : tie.Need-is-on-requires Inv-loop μ-loop
+is-on-requires c κs = search needs
 
-array-read-count : tie.Need-array-read-count Inv-loop μ-loop
-array-read-count c = omega (arith, simp length-tab at (ap length (c .before .before .before .loop .inv .1)))
+cast-sum : tie.Need-cast-sum Inv-loop μ-loop
+cast-sum c = search needs
+
+add-sum : tie.Need-add-sum Inv-loop μ-loop
+unfolding setAt stateAt pastEnd
+add-sum c =
+    let at = c .before .before .before .before .before .before in
+    let l : at .loop .i < 8 = c .before .before .before .before .before .loop-test .taken in
+    let on = sym (c .before .before .is-on .ensures) ∙ c .before .if1 .taken in
+    record { fits = omega (arith, sum-small (at .loop .inv .0) (at .loop .inv .1) l on) }
+
+mul-upto : tie.Need-mul-upto Inv-loop μ-loop
+unfolding setAt stateAt pastEnd
+mul-upto c =
+    let at = c .before .before .before .before .before .before in
+    let l : at .loop .i < 8 = c .before .before .before .before .before .loop-test .taken in
+    let on = sym (c .before .before .is-on .ensures) ∙ c .before .if1 .taken in
+    record { fits = omega (arith, product-small (at .loop .inv .0) (at .loop .inv .1) l on) }
+
+div-upto : tie.Need-div-upto Inv-loop μ-loop
+unfolding setAt stateAt pastEnd
+div-upto c =
+    let at = c .before .before .before .before .before .before in
+    let l : at .loop .i < 8 = c .before .before .before .before .before .loop-test .taken in
+    let on = sym (c .before .before .is-on .ensures) ∙ c .before .if1 .taken in
+    omega (arith, some-capacity (at .loop .inv .0) (at .loop .inv .1) l on)
+
+sub-power : tie.Need-sub-power Inv-loop μ-loop
+unfolding setAt stateAt pastEnd
+sub-power c =
+    let at = c .before .before .before .before .before .before in
+    let l : at .loop .i < 8 = c .before .before .before .before .before .loop-test .taken in
+    let on = sym (c .before .before .is-on .ensures) ∙ c .before .if1 .taken in
+    given-rises (at .loop .inv .0) (at .loop .inv .1) l on
+
+cast-power : tie.Need-cast-power Inv-loop μ-loop
+unfolding setAt stateAt pastEnd
+cast-power c =
+    let at = c .before .before .before .before .before .before in
+    let l : at .loop .i < 8 = c .before .before .before .before .before .loop-test .taken in
+    let on = sym (c .before .before .is-on .ensures) ∙ c .before .if1 .taken in
+    record { fits = omega (arith, takes-rating (at .loop .inv .0) (at .loop .inv .1) l on, rating-small (at .loop .inv .0) (at .loop .inv .1) l on) }
 
 count-requires : tie.Need-count-requires Inv-loop μ-loop
 unfolding setAt stateAt pastEnd
 count-requires c κs =
-    let at-loop = c .before .before .before in
-    let l : at-loop .loop .i < 8 = search needs in
-    rw (filling-at _ _ 8 (at-loop .loop .i) _ (at-loop .loop .inv .2) _) (countable _ _ _ _ (at-loop .loop .inv .0) _ (at-loop .loop .inv .1) (at-loop .loop .i) l)
+    let at = c .before .before .before .before .before .before in
+    let l : at .loop .i < 8 = c .before .before .before .before .before .loop-test .taken in
+    let on = sym (c .before .before .is-on .ensures) ∙ c .before .if1 .taken in
+    countable-here (at .loop .inv .0) (at .loop .inv .1) l on
 
 mul-out : tie.Need-mul-out Inv-loop μ-loop
 mul-out c = omega arith
@@ -88,24 +98,30 @@ mul-out c = omega arith
 array-set-from-out : tie.Need-array-set-from-out Inv-loop μ-loop
 array-set-from-out c = omega arith
 
-add-i : tie.Need-add-i Inv-loop μ-loop
-add-i c = omega arith
-
 loop-less : tie.Need-loop-less Inv-loop μ-loop
 loop-less c = omega arith
 
 loop-again : tie.Need-loop-again Inv-loop μ-loop
 unfolding setAt stateAt pastEnd
 loop-again c =
-    let at-loop = c .before .before .before .before in
-    let l : at-loop .loop .i < 8 = search needs in
-    let e = power-is _ _ _ _ (at-loop .loop .inv .0) _ (at-loop .loop .inv .1) (at-loop .loop .i) l in
-    let own = filling-at _ _ 8 (at-loop .loop .i) _ (at-loop .loop .inv .2) (fresh Off) in
-    (at-loop .loop .inv .0, at-loop .loop .inv .1, filling-more _ _ 8 (at-loop .loop .i) _ (at-loop .loop .inv .2) l _ (c .count .ensures ∙ rw (own, e)))
+    let at = c .before .before .before .before .before .before .before in
+    let l : at .loop .i < 8 = c .before .before .before .before .before .before .loop-test .taken in
+    let on = sym (c .before .before .before .is-on .ensures) ∙ c .before .before .if1 .taken in
+    (at .loop .inv .0, counting-more (at .loop .inv .0) (at .loop .inv .1) l on _ (c .count .ensures))
+
+loop-less-2 : tie.Need-loop-less-2 Inv-loop μ-loop
+loop-less-2 c = omega arith
+
+loop-again-2 : tie.Need-loop-again-2 Inv-loop μ-loop
+unfolding stateAt
+loop-again-2 c =
+    let at = c .before .before .before .before .before in
+    let l : at .loop .i < 8 = c .before .before .before .before .loop-test .taken in
+    (at .loop .inv .0, counting-kept (at .loop .inv .0) (at .loop .inv .1) l (sym (c .before .is-on .ensures) ∙ c .if1 .left))
 
 returns : tie.Need-returns Inv-loop μ-loop
 unfolding countedAll
-returns c = filling-whole _ _ 8 (c .before .loop .i) _ (c .before .loop .inv .2) (omega arith)
+returns c = filling-whole _ _ 8 (c .before .loop .i) _ (c .before .loop .inv .1 .filled) (omega arith)
 
 pub count-all-spec : {M : Type 1} → statement M
 count-all-spec =
@@ -113,18 +129,24 @@ count-all-spec =
     (tie.spec
     Inv-loop
     μ-loop
-    shares-requires
     loop-holds
+    add-i
     mul-genset
     array-copy-out-genset
     mul-state
     array-copy-out-state
-    mul-count
-    array-read-count
+    is-on-requires
+    cast-sum
+    add-sum
+    mul-upto
+    div-upto
+    sub-power
+    cast-power
     count-requires
     mul-out
     array-set-from-out
-    add-i
     loop-less
     loop-again
+    loop-less-2
+    loop-again-2
     returns)

@@ -28,7 +28,7 @@ some (suc n) m e h = omega arith
 -- nothing worked, where the calls come to nothing
 none-owed : (st : Station) (loads solars sheddables lent : List ℕ) (r : Run) (w : Worked) (verdict : Verdict) → w ≡ record { run = r; seconds = 0; bytes = 0; verdict = verdict }
     → callsOf st r (inputsOf loads solars sheddables) (length lent) ≡ endedBy r 0 [] (verdictOf verdict) → SecondsWorked st r loads solars sheddables lent w lent
-none-owed st loads solars sheddables lent r w verdict e c = rw e (owed st loads solars sheddables lent r lent lent r 0 0 verdict (omega arith) c refl)
+none-owed st loads solars sheddables lent r w verdict e c = rw e (owed st loads solars sheddables lent r lent lent r 0 0 verdict (omega arith) c refl r refl r refl)
 
 places-requires : tie.Need-places-requires
 places-requires c κs = search needs

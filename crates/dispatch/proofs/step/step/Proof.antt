@@ -2,7 +2,10 @@
 use Prim.Native.Nat.{ℕ, _≤_, _<_}
 use mathlib.Core.Path.{_≡_, refl, sym, ap, _∙_}
 use native.Mathlib.Omega.{arith}
+use denote.Ref.{now}
 use lib.ListN.{length, length-map}
+use Rattle.rules.specs.declared.run.Step.{Step}
+use Rattle.dispatch.specs.Parts.{runOf}
 use Rattle.rules.specs.Second.{wattsNow}
 use Rattle.rules.proofs.Shapes.{Tables}
 use Rattle.dispatch.proofs.Ready.{wantable, switchable, call-most, totals-small}
@@ -18,45 +21,46 @@ tables c =
     record { sets-length = simp length-map at (good .0 .1 .0 .1); configs-length = simp length-map at (good .1 .0 .1 .0 .1) }
 
 supply-requires : tie.Need-supply-requires
-supply-requires c κs = search needs
+supply-requires c κs = let start = c .before .before .before .before in (start .pre .0, start .pre .2)
 
 wanted-now-requires : tie.Need-wanted-now-requires
 wanted-now-requires c κs =
-    let start = c .before .before .before .before .before .before in
-    rw (c .before .before .before .supply .ensures .watts) (wantable (start .args .st) (tables (start)) (start .args .run) (start .args .inputs) (start .pre))
+    let supplied = c .before .before .before .before in
+    let start = supplied .before .before .before .before .before in
+    rw (supplied .supply .ensures .watts) (wantable (start .args .st) (tables start) (runOf (start .args .moment) (start .args .before) (now (start .args .decided))) (start .args .inputs) (start .pre .0))
 
 commit-requires : tie.Need-commit-requires
 commit-requires c κs =
-    let after-before = c .before .before .before .before .before .before in
-    let start = after-before .before in
-    rw (c .before .before .before .before .supply .ensures .states) (switchable (start .args .st) (tables (start)) (start .args .run) (start .args .inputs) (start .pre) (wattsNow (start .args .st) (start .args .run) (start .args .inputs)))
+    let supplied = c .before .before .before .before .before in
+    let start = supplied .before .before .before .before .before in
+    (rw (supplied .supply .ensures .states) (switchable (start .args .st) (tables start) (runOf (start .args .moment) (start .args .before) (now (start .args .decided))) (start .args .inputs) (start .pre .0) (wattsNow (start .args .st) (runOf (start .args .moment) (start .args .before) (now (start .args .decided))) (start .args .inputs))), start .pre .1)
 
 plus-requires : tie.Need-plus-requires
-plus-requires c κs =
-    let after-before = c .before .before .before .before .before .before .before .before in
-    let start = after-before .before in
-    totals-small (start .args .st) (tables (start)) (start .args .run) (start .args .inputs) (start .pre)
+plus-requires c κs = let start = c .before .before .before .before .before .before .before .before .before .before .before .before in totals-small (start .args .st) (tables start) (runOf (start .args .moment) (start .args .before) (now (start .args .decided))) (start .args .inputs) (start .pre .0)
 
-add-t18 : tie.Need-add-t18
-add-t18 c = search needs
+add-t25 : tie.Need-add-t25
+add-t25 c = record { fits = omega (arith, c .before .before .before .before .before .before .before .before .before .before .before .before .before .pre .0 .not-ended) }
 
 since-after-requires : tie.Need-since-after-requires
 since-after-requires c κs = search needs
 
-cast-t19 : tie.Need-cast-t19
-cast-t19 c =
-    let after-wanted-now = c .before .before .before .before .before .before in
-    let after-supply = after-wanted-now .before .before .before .before in
-    let after-before = after-supply .before .before in
-    let start = after-before .before in
-    omega (arith, call-now (start .args .st) (start .args .run) (start .args .inputs) _ (after-supply .supply .ensures) _ (after-wanted-now .wanted-now .ensures) _ (c .before .before .before .before .before .commit .ensures), call-most (start .args .st) (tables (start)) (start .args .run) (start .args .inputs) (start .pre))
+cast-t26 : tie.Need-cast-t26
+cast-t26 c =
+    let wanted = c .before .before .before .before .before in
+    let supplied = wanted .before .before .before .before .before in
+    let start = supplied .before .before .before .before .before in
+    omega (arith, call-now (start .args .st) (runOf (start .args .moment) (start .args .before) (now (start .args .decided))) (start .args .inputs) _ _ (supplied .supply .ensures) _ (wanted .wanted-now .ensures) _ (c .before .before .before .before .commit .ensures), call-most (start .args .st) (tables start) (runOf (start .args .moment) (start .args .before) (now (start .args .decided))) (start .args .inputs) (start .pre .0))
+
+same-length : tie.Need-same-length
+same-length c = search needs
 
 returns : tie.Need-returns
 returns c =
-    let after-wanted-now = c .before .before .before .before .before .before in
-    let after-supply = after-wanted-now .before .before .before .before in
-    let start = after-supply .before .before .before in
-    step-now (start .args .st) (start .args .run) (start .args .inputs) _ (after-supply .supply .ensures) _ (after-wanted-now .wanted-now .ensures) _ (c .before .before .before .before .before .commit .ensures) _ (c .before .since-after .ensures) _ (c .before .before .before .plus .ensures)
+    let wanted = c .before .before .before .before .before in
+    let supplied = wanted .before .before .before .before .before in
+    let start = supplied .before .before .before .before .before in
+    let same = step-now (start .args .st) (runOf (start .args .moment) (start .args .before) (now (start .args .decided))) (start .args .inputs) _ _ (supplied .supply .ensures) _ (wanted .wanted-now .ensures) _ (c .before .before .before .before .commit .ensures) _ (c .before .since-after .ensures) _ (c .before .before .plus .ensures) in
+    record { after = ap (λ (z : Step). z .run) same; row = ap (λ (z : Step). z .row) same }
 
 pub step-spec : {M : Type 1} → statement M
 step-spec =
@@ -66,7 +70,8 @@ step-spec =
     wanted-now-requires
     commit-requires
     plus-requires
-    add-t18
+    add-t25
     since-after-requires
-    cast-t19
+    cast-t26
+    same-length
     returns)

@@ -3,7 +3,9 @@ use borrow.Author.Needs.{needs}
 use Prim.Native.Nat.{ℕ, _≤_, _<_, max}
 use mathlib.Core.Path.{_≡_, refl, sym, ap, _∙_}
 use native.Mathlib.Omega.{arith}
+use denote.Ref.{now}
 use lib.ListN.{length, length-map}
+use Rattle.dispatch.specs.Parts.{runOf}
 use Rattle.rules.proofs.Shapes.{Tables}
 use Rattle.gensets.proofs.FileCapacity.{capacity-most}
 use Rattle.rules.proofs.StationFacts.{right-of, delay-range}
@@ -23,14 +25,14 @@ capacity-requires c κs = search needs
 
 cast-cap : tie.Need-cast-cap
 cast-cap c =
-    let start = c .before .before .before .before .before .before .before .before in
-    let h = c .capacity .ensures in let k = capacity-most (start .args .st) (start .pre .station-given) (c .before .on-mask .result) in omega arith
+    let start = c .before .before .before .before .before .before .before in
+    let h = c .capacity .ensures in let k = capacity-most (start .args .st) (start .pre .0 .station-given) (c .before .on-mask .result) in omega arith
 
 floor-load-requires : tie.Need-floor-load-requires
 floor-load-requires c κs = search needs
 
-array-read-flow : tie.Need-array-read-flow
-array-read-flow c = search needs
+slice-read-flow : tie.Need-slice-read-flow
+slice-read-flow c = let start = c .before .before .before .before .before .before .before .before .before in omega (arith, start .pre .1)
 
 flow-requires : tie.Need-flow-requires
 flow-requires c κs = search needs
@@ -38,42 +40,53 @@ flow-requires c κs = search needs
 shed-decided-requires : tie.Need-shed-decided-requires
 shed-decided-requires c κs = search needs
 
-decided-after-requires : tie.Need-decided-after-requires
-decided-after-requires c κs = search needs
+decide-requires : tie.Need-decide-requires
+decide-requires c κs = search needs
 
-tables : (c : tie.After-decided-after) → Tables (c .before .before .before .before .before .before .before .before .before .before .before .before .before .args .st)
+tables : (c : tie.Start) → Tables (c .args .st)
 tables c =
-    let start = c .before .before .before .before .before .before .before .before .before .before .before .before .before in
-    let good = start .good .0 .1 .1 .1 .1 .1 .1 in
+    let good = c .good .0 .1 .1 .1 .1 .1 .1 in
     record { sets-length = simp length-map at (good .0 .1 .0 .1); configs-length = simp length-map at (good .1 .0 .1 .0 .1) }
+
+cast-count-all : tie.Need-cast-count-all
+cast-count-all c = search needs
 
 count-all-requires : tie.Need-count-all-requires
 count-all-requires c κs =
-    let after-floor-load = c .before .before .before .before in
-    let after-capacity = after-floor-load .before in
-    let after-on-mask = after-capacity .before in
-    let after-tick-all = after-on-mask .before in
-    let start = after-tick-all .before .before .before .before .before .before in
-    rw (
-      states-now (start .args .st) (start .args .run) (start .args .inputs) _ (after-tick-all .tick-all .ensures) _ (after-on-mask .on-mask .ensures .0) _ (after-capacity .capacity .ensures) _ (after-floor-load .floor-load .ensures),
-      on-now (start .args .st) (start .args .run) (start .args .inputs) _ (after-tick-all .tick-all .ensures) _ (after-on-mask .on-mask .ensures .0) _ (after-capacity .capacity .ensures) _ (after-floor-load .floor-load .ensures),
-      watts-now (start .args .st) (start .args .run) (start .args .inputs) _ (after-tick-all .tick-all .ensures) _ (after-on-mask .on-mask .ensures .0) _ (after-capacity .capacity .ensures) _ (after-floor-load .floor-load .ensures) _ (c .before .before .before .flow .ensures .0),
-    ) (countable (start .args .st) (tables c) (start .args .run) (start .args .inputs) (start .pre))
+    let flowed = c .before .before .before .before .before .before in
+    let floored = flowed .before .before in
+    let rated = floored .before in
+    let masked = rated .before in
+    let ticked = masked .before in
+    let start = ticked .before .before .before .before .before in (
+      rw (
+        states-now (start .args .st) (runOf (start .args .moment) (start .args .before) (now (start .args .decided))) (start .args .inputs) _ (ticked .tick-all .ensures) _ (masked .on-mask .ensures .0) _ (rated .capacity .ensures) _ (floored .floor-load .ensures),
+        on-now (start .args .st) (runOf (start .args .moment) (start .args .before) (now (start .args .decided))) (start .args .inputs) _ (ticked .tick-all .ensures) _ (masked .on-mask .ensures .0) _ (rated .capacity .ensures) _ (floored .floor-load .ensures),
+        watts-now (start .args .st) (runOf (start .args .moment) (start .args .before) (now (start .args .decided))) (start .args .inputs) _ (ticked .tick-all .ensures) _ (masked .on-mask .ensures .0) _ (rated .capacity .ensures) _ (floored .floor-load .ensures) _ (flowed .flow .ensures .0),
+      ) (countable (start .args .st) (tables start) (runOf (start .args .moment) (start .args .before) (now (start .args .decided))) (start .args .inputs) (start .pre .0)),
+      rated .capacity .ensures,
+      masked .on-mask .ensures .0,
+    )
+
+same-length : tie.Need-same-length
+same-length c = search needs
 
 returns : tie.Need-returns
 returns c =
-    let after-flow = c .before .before .before .before in
-    let after-floor-load = after-flow .before in
-    let after-capacity = after-floor-load .before in
-    let after-on-mask = after-capacity .before in
-    let after-tick-all = after-on-mask .before in
-    let start = after-tick-all .before .before .before .before .before .before in
+    let left = c .before .before .before in
+    let shed = left .before .before in
+    let flowed = shed .before .before in
+    let floored = flowed .before .before in
+    let rated = floored .before in
+    let masked = rated .before in
+    let ticked = masked .before in
+    let start = ticked .before .before .before .before .before in
     record {
-      states = ran-now (start .args .st) (start .args .run) (start .args .inputs) _ (after-tick-all .tick-all .ensures) _ (after-on-mask .on-mask .ensures .0) _ (after-capacity .capacity .ensures) _ (after-floor-load .floor-load .ensures) _ (after-flow .flow .ensures .0) _ (c .count-all .ensures);
-      on = on-now (start .args .st) (start .args .run) (start .args .inputs) _ (after-tick-all .tick-all .ensures) _ (after-on-mask .on-mask .ensures .0) _ (after-capacity .capacity .ensures) _ (after-floor-load .floor-load .ensures);
-      watts = watts-now (start .args .st) (start .args .run) (start .args .inputs) _ (after-tick-all .tick-all .ensures) _ (after-on-mask .on-mask .ensures .0) _ (after-capacity .capacity .ensures) _ (after-floor-load .floor-load .ensures) _ (after-flow .flow .ensures .0);
-      store = store-now (start .args .st) (start .args .run) (start .args .inputs) _ (after-tick-all .tick-all .ensures) _ (after-on-mask .on-mask .ensures .0) _ (after-capacity .capacity .ensures) _ (after-floor-load .floor-load .ensures) _ (after-flow .flow .ensures .0) _ (after-flow .flow .ensures .1);
-      decided = decided-now (start .args .st) (start .args .run) (start .args .inputs) _ (after-tick-all .tick-all .ensures) _ (after-on-mask .on-mask .ensures .0) _ (after-capacity .capacity .ensures) _ (after-floor-load .floor-load .ensures) _ (after-flow .flow .ensures .0) _ _ (delay-range (start .args .st .setcount) (start .args .st .control) (right-of (start .args .st) (start .pre .station-given) .control) .0) (c .before .before .shed-decided .ensures) (c .before .decided-after .ensures);
+      states = ran-now (start .args .st) (runOf (start .args .moment) (start .args .before) (now (start .args .decided))) (start .args .inputs) _ (ticked .tick-all .ensures) _ (masked .on-mask .ensures .0) _ (rated .capacity .ensures) _ (floored .floor-load .ensures) _ (flowed .flow .ensures .0) _ (c .count-all .ensures);
+      on = on-now (start .args .st) (runOf (start .args .moment) (start .args .before) (now (start .args .decided))) (start .args .inputs) _ (ticked .tick-all .ensures) _ (masked .on-mask .ensures .0) _ (rated .capacity .ensures) _ (floored .floor-load .ensures);
+      watts = watts-now (start .args .st) (runOf (start .args .moment) (start .args .before) (now (start .args .decided))) (start .args .inputs) _ (ticked .tick-all .ensures) _ (masked .on-mask .ensures .0) _ (rated .capacity .ensures) _ (floored .floor-load .ensures) _ (flowed .flow .ensures .0);
+      store = store-now (start .args .st) (runOf (start .args .moment) (start .args .before) (now (start .args .decided))) (start .args .inputs) _ (ticked .tick-all .ensures) _ (masked .on-mask .ensures .0) _ (rated .capacity .ensures) _ (floored .floor-load .ensures) _ (flowed .flow .ensures .0) _ (flowed .flow .ensures .1);
+      amounts = decided-now (start .args .st) (runOf (start .args .moment) (start .args .before) (now (start .args .decided))) (start .args .inputs) _ (ticked .tick-all .ensures) _ (masked .on-mask .ensures .0) _ (rated .capacity .ensures) _ (floored .floor-load .ensures) _ (flowed .flow .ensures .0) _ _ (delay-range (start .args .st .setcount) (start .args .st .control) (right-of (start .args .st) (start .pre .0 .station-given) .control) .0) (shed .shed-decided .ensures) (start .pre .1) (left .decide .ensures);
     }
 
 pub supply-spec : {M : Type 1} → statement M
@@ -85,9 +98,11 @@ supply-spec =
     capacity-requires
     cast-cap
     floor-load-requires
-    array-read-flow
+    slice-read-flow
     flow-requires
     shed-decided-requires
-    decided-after-requires
+    decide-requires
+    cast-count-all
     count-all-requires
+    same-length
     returns)
