@@ -1,0 +1,30 @@
+use borrow.Author.Needs.{needs}
+use Rattle.intake.proofs.station_bytes.is_station_refused.Statement.{statement}
+use Rattle.intake.proofs.station_bytes.is_station_refused.Tie as tie
+use Rattle.intake.proofs.station_bytes.is_station_refused.Reads as reads
+use Rattle.intake.proofs.station_bytes.is_station_refused.Lts as lts
+use Rattle.intake.proofs.station_bytes.station_of.Reads as station-of-reads
+
+-- src/station_bytes.rt:76:9
+station-of-requires : tie.Need-station-of-requires
+station-of-requires c κs = search needs
+
+-- src/station_bytes.rt:79:30
+enum-told : tie.Need-enum-told
+enum-told c = search needs
+
+-- src/station_bytes.rt:80:32
+enum-told-2 : tie.Need-enum-told-2
+enum-told-2 c = search needs
+
+-- src/station_bytes.rt:73:1
+returns : tie.Need-returns
+returns c = ?
+
+-- src/station_bytes.rt:73:1
+returns-2 : tie.Need-returns-2
+returns-2 c = ?
+
+pub is-station-refused-spec : {M : Type 1} → statement M
+is-station-refused-spec =
+    tie.close (tie.spec station-of-requires enum-told enum-told-2 returns returns-2)

@@ -1,0 +1,11 @@
+use Rattle.intake.proofs.station_bytes.station_bytes.Statement.{statement}
+use Rattle.intake.proofs.station_bytes.station_bytes.Tie as tie
+use Rattle.intake.proofs.station_bytes.station_bytes.Reads as reads
+use Rattle.intake.proofs.station_bytes.station_bytes.Lts as lts
+
+-- src/station_bytes.rt:30:1
+returns : tie.Need-returns
+returns c = ?
+
+pub station-bytes-spec : {M : Type 1} → statement M
+station-bytes-spec = tie.close (tie.spec returns)

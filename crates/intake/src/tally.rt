@@ -1,0 +1,49 @@
+// A count and a checksum of the bytes of a pass: where those of two passes differ, the file changed between them.
+ghost use mathlib.Core.Path.{_≡_};
+ghost use mathlib.Core.List.{List, [], _++_};
+ghost use Prim.Native.Nat.{ℕ};
+ghost use Rattle.intake.specs.Tally.{noBytes, talliedOf, sameTally};
+
+// How many bytes, their sum, and the sum of those sums after each byte, which tells bytes that changed places.
+pub struct Tally {
+    pub count: u64,
+    pub sum: u32,
+    pub sums: u32,
+}
+
+pub fn no_bytes() -> Tally
+    ensures { λ r. ⌜ r ≡ noBytes ⌝ }
+{
+    Tally {
+        count: 0,
+        sum: 0,
+        sums: 0,
+    }
+}
+
+// With the bytes of a chunk after those before.
+pub fn tallied(before: Tally, chunk: &[u8]) -> Tally
+    ensures { λ r. ⌜ r ≡ talliedOf before (now (chunk .entry)) ⌝ }
+{
+    let mut sum = before.sum;
+    let mut sums = before.sums;
+    let mut i = 0;
+    while i < chunk.len() {
+        let byte = chunk[i];
+        sum = ((sum as u64 + byte as u64) % 4_294_967_296) as u32;
+        sums = ((sums as u64 + sum as u64) % 4_294_967_296) as u32;
+        i += 1;
+    }
+    Tally {
+        count: std::num::wrapping_add_u64(before.count, i as u64),
+        sum,
+        sums,
+    }
+}
+
+// Whether two passes had the same count and checksum.
+pub fn same_tally(a: Tally, b: Tally) -> bool
+    ensures { λ r. ⌜ r ≡ sameTally a b ⌝ }
+{
+    (a.count == b.count) & (a.sum == b.sum) & (a.sums == b.sums)
+}
