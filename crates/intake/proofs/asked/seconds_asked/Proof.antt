@@ -1,3 +1,6 @@
+-- `intake::asked::seconds_asked` meets its contract. Assumes nothing.
+use mathlib.Core.Path.{sym, ap, _∙_}
+use Rattle.intake.proofs.AskedLaws.{askedBy, asked-by}
 use borrow.Author.Needs.{needs}
 use Rattle.intake.proofs.asked.seconds_asked.Statement.{statement}
 use Rattle.intake.proofs.asked.seconds_asked.Tie as tie
@@ -27,15 +30,22 @@ enum-told-2 c = search needs
 
 -- src/asked.rt:11:1
 returns : tie.Need-returns
-returns c = ?
+returns c =
+    let cell = c .before .before .before .time in
+    let s = c .before .before .before .before .before .args .bytes .now in
+    ap askedBy (sym (c .before .cell .given .1)) ∙ asked-by (cell .result) s (cell .ensures)
 
 -- src/asked.rt:11:1
 returns-2 : tie.Need-returns-2
-returns-2 c = ?
+returns-2 c =
+    let s = c .before .before .before .before .args .bytes .now in
+    ap askedBy (sym (c .enum-told .given .1)) ∙ asked-by (c .before .before .time .result) s (c .before .before .time .ensures)
 
 -- src/asked.rt:11:1
 returns-3 : tie.Need-returns-3
-returns-3 c = ?
+returns-3 c =
+    let s = c .before .before .before .before .args .bytes .now in
+    ap askedBy (sym (c .enum-told2 .given .1)) ∙ asked-by (c .before .before .time .result) s (c .before .before .time .ensures)
 
 pub seconds-asked-spec : {M : Type 1} → statement M
 seconds-asked-spec =

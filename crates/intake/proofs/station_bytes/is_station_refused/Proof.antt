@@ -1,3 +1,10 @@
+-- `intake::station_bytes::is_station_refused` meets its contract. Assumes nothing.
+use mathlib.Core.Path.{sym, ap, _∙_}
+use mathlib.Core.List.{[]}
+use Rattle.rules.specs.declared.answers.Verdict.{Verdict}
+use Rattle.rules.specs.Answers.{verdictOf}
+use Rattle.intake.specs.Stations.{stationWith, isRefused}
+use Rattle.intake.proofs.StationLaws.{refused-reading}
 use borrow.Author.Needs.{needs}
 use Rattle.intake.proofs.station_bytes.is_station_refused.Statement.{statement}
 use Rattle.intake.proofs.station_bytes.is_station_refused.Tie as tie
@@ -19,11 +26,15 @@ enum-told-2 c = search needs
 
 -- src/station_bytes.rt:73:1
 returns : tie.Need-returns
-returns c = ?
+returns c =
+    let file = c .before .before .before .args .file in
+    ap (λ (v : Verdict). isRefused (verdictOf v)) (sym (c .enum-told .given .1)) ∙ refused-reading _ (stationWith file []) (c .before .before .station-of .ensures .0)
 
 -- src/station_bytes.rt:73:1
 returns-2 : tie.Need-returns-2
-returns-2 c = ?
+returns-2 c =
+    let file = c .before .before .before .args .file in
+    ap (λ (v : Verdict). isRefused (verdictOf v)) (sym (c .enum-told2 .given .1)) ∙ refused-reading _ (stationWith file []) (c .before .before .station-of .ensures .0)
 
 pub is-station-refused-spec : {M : Type 1} → statement M
 is-station-refused-spec =

@@ -1,3 +1,11 @@
+-- `intake::tally::tallied` meets its contract. Assumes nothing.
+use Prim.Native.Nat.{_-_, _≤_}
+use mathlib.Core.Path.{_≡_}
+use native.Mathlib.Omega.{arith}
+use lib.ListN.{length, drop}
+use borrow.Author.Needs.{needs}
+use Rattle.intake.specs.Tally.{talliedOf}
+use Rattle.intake.proofs.TallyLaws.{after, tally-start, tally-turn, tally-end}
 use Rattle.intake.proofs.tally.tallied.Statement.{statement}
 use Rattle.intake.proofs.tally.tallied.Tie as tie
 use Rattle.intake.proofs.tally.tallied.Reads as reads
@@ -5,70 +13,72 @@ use Rattle.intake.proofs.tally.tallied.Lts as lts
 use Rattle.std.proofs.num.wrapping_add_u64.Reads as wrapping-add-u64-reads
 
 abbrev Inv-loop : tie.InvT-loop
-Inv-loop before chunk sum₀ sums₀ i₀ sum sums i = ?
+Inv-loop before chunk sum₀ sums₀ i₀ sum sums i = (i ≤ length chunk) × (talliedOf before chunk ≡ talliedOf (after (before .count) i sum sums) (drop i chunk))
 
 abbrev μ-loop : tie.MeasureT-loop
-μ-loop before chunk sum₀ sums₀ i₀ sum sums i = ?
+μ-loop before chunk sum₀ sums₀ i₀ sum sums i = length chunk - i
 
 -- src/tally.rt:31:5
 loop-holds : tie.Need-loop-holds Inv-loop μ-loop
-loop-holds c = ?
+loop-holds c = (omega arith, tally-start _ _ (omega arith))
 
 -- src/tally.rt:32:20
 shared-slice-read-byte : tie.Need-shared-slice-read-byte Inv-loop μ-loop
-shared-slice-read-byte c = ?
+shared-slice-read-byte c = search needs
 
 -- src/tally.rt:33:17
 cast-sum : tie.Need-cast-sum Inv-loop μ-loop
-cast-sum c = ?
+cast-sum c = search needs
 
 -- src/tally.rt:33:30
 cast-sum-2 : tie.Need-cast-sum-2 Inv-loop μ-loop
-cast-sum-2 c = ?
+cast-sum-2 c = search needs
 
 -- src/tally.rt:33:17
 add-sum : tie.Need-add-sum Inv-loop μ-loop
-add-sum c = ?
+add-sum c = search needs
 
 -- src/tally.rt:33:15
 cast-sum-3 : tie.Need-cast-sum-3 Inv-loop μ-loop
-cast-sum-3 c = ?
+cast-sum-3 c = search needs
 
 -- src/tally.rt:34:18
 cast-sums : tie.Need-cast-sums Inv-loop μ-loop
-cast-sums c = ?
+cast-sums c = search needs
 
 -- src/tally.rt:34:32
 cast-sums-2 : tie.Need-cast-sums-2 Inv-loop μ-loop
-cast-sums-2 c = ?
+cast-sums-2 c = search needs
 
 -- src/tally.rt:34:18
 add-sums : tie.Need-add-sums Inv-loop μ-loop
-add-sums c = ?
+add-sums c = search needs
 
 -- src/tally.rt:34:16
 cast-sums-3 : tie.Need-cast-sums-3 Inv-loop μ-loop
-cast-sums-3 c = ?
+cast-sums-3 c = search needs
 
 -- src/tally.rt:35:9
 add-i : tie.Need-add-i Inv-loop μ-loop
-add-i c = ?
+add-i c = search needs
 
 -- src/tally.rt:31:5
 loop-less : tie.Need-loop-less Inv-loop μ-loop
-loop-less c = ?
+loop-less c = search needs
 
 -- src/tally.rt:31:5
 loop-again : tie.Need-loop-again Inv-loop μ-loop
-loop-again c = ?
+loop-again c = let l = c .before .before .loop in (omega arith, tally-turn _ _ (l .sum) (l .sums) _ (l .i) (omega arith) (l .inv .1))
 
 -- src/tally.rt:38:16
 wrapping-add-u64-requires : tie.Need-wrapping-add-u64-requires Inv-loop μ-loop
-wrapping-add-u64-requires c κs = ?
+wrapping-add-u64-requires c κs = search needs
 
 -- src/tally.rt:25:1
 returns : tie.Need-returns Inv-loop μ-loop
-returns c = ?
+returns c =
+    let l = c .before .before .loop in
+    rw (c .wrapping-add-u64 .ensures) (tally-end _ _ (l .sum) (l .sums) _ (l .i) (omega arith) (l .inv .1))
 
 pub tallied-spec : {M : Type 1} → statement M
 tallied-spec =

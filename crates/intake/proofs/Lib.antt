@@ -1,0 +1,4 @@
+-- Laws of the bytes held, of the seconds asked and of the tally, and the theorems over every list of chunks.
+pub mod StationLaws
+pub mod AskedLaws
+pub mod TallyLaws
