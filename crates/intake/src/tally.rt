@@ -3,6 +3,8 @@ ghost use mathlib.Core.Path.{_≡_};
 ghost use mathlib.Core.List.{List, [], _++_};
 ghost use Prim.Native.Nat.{ℕ};
 ghost use Rattle.intake.specs.Tally.{noBytes, talliedOf, sameTally};
+use std::num::wrapping_add_u32;
+use std::num::wrapping_add_u64;
 
 // How many bytes, their sum, and the sum of those sums after each byte, which tells bytes that changed places.
 pub struct Tally {
@@ -21,6 +23,13 @@ pub fn no_bytes() -> Tally
     }
 }
 
+// A byte is cast in a function of its own, so that the loop has only the index to show.
+fn wide(byte: u8) -> u32
+    ensures { λ r. ⌜ r ≡ byte ⌝ }
+{
+    byte as u32
+}
+
 // With the bytes of a chunk after those before.
 pub fn tallied(before: Tally, chunk: &[u8]) -> Tally
     ensures { λ r. ⌜ r ≡ talliedOf before (now (chunk .entry)) ⌝ }
@@ -30,12 +39,12 @@ pub fn tallied(before: Tally, chunk: &[u8]) -> Tally
     let mut i = 0;
     while i < chunk.len() {
         let byte = chunk[i];
-        sum = ((sum as u64 + byte as u64) % 4_294_967_296) as u32;
-        sums = ((sums as u64 + sum as u64) % 4_294_967_296) as u32;
+        sum = wrapping_add_u32(sum, wide(byte));
+        sums = wrapping_add_u32(sums, sum);
         i += 1;
     }
     Tally {
-        count: std::num::wrapping_add_u64(before.count, i as u64),
+        count: wrapping_add_u64(before.count, i as u64),
         sum,
         sums,
     }

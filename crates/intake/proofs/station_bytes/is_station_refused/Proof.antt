@@ -28,13 +28,13 @@ enum-told-2 c = search needs
 returns : tie.Need-returns
 returns c =
     let file = c .before .before .before .args .file in
-    ap (λ (v : Verdict). isRefused (verdictOf v)) (sym (c .enum-told .given .1)) ∙ refused-reading _ (stationWith file []) (c .before .before .station-of .ensures .0)
+    ap (λ (v : Verdict). isRefused (verdictOf v)) (sym (c .enum-told .given .1)) ∙ refused-reading (c .before .before .station-of .result .verdict) (stationWith file []) (c .before .before .station-of .ensures .0)
 
 -- src/station_bytes.rt:73:1
 returns-2 : tie.Need-returns-2
 returns-2 c =
     let file = c .before .before .before .args .file in
-    ap (λ (v : Verdict). isRefused (verdictOf v)) (sym (c .enum-told2 .given .1)) ∙ refused-reading _ (stationWith file []) (c .before .before .station-of .ensures .0)
+    ap (λ (v : Verdict). isRefused (verdictOf v)) (sym (c .enum-told2 .given .1)) ∙ refused-reading (c .before .before .station-of .result .verdict) (stationWith file []) (c .before .before .station-of .ensures .0)
 
 pub is-station-refused-spec : {M : Type 1} → statement M
 is-station-refused-spec =

@@ -2,7 +2,7 @@
 use Prim.Native.Nat.{_+_, _-_, _≤_}
 use mathlib.Core.Path.{_≡_}
 use native.Mathlib.Omega.{arith}
-use lib.ListN.{length}
+use lib.ListN.{length, length-map}
 use lib.Seq.{paste, paste-zero}
 use borrow.Author.Needs.{needs}
 use Rattle.intake.specs.Stations.{stationWith}
@@ -33,13 +33,15 @@ unfolding stationWith
 returns c =
     let a = c .before .before .before .before .args in
     let least = c .before .lesser in
-    λ rest. over-held (a .file .bytes) (a .file .len) (least .result) (omega arith) (least .ensures .0) (a .chunk .now) rest (omega arith)
+    let size : length (a .file .bytes) ≡ 677 = simp length-map at (c .before .before .before .before .good .0 .1 .1 .0 .1 .0 .1) in
+    λ rest. over-held (a .file .bytes) (a .file .len) (least .result) size (least .ensures .0) (a .chunk .now) rest (omega arith)
 
 -- src/station_bytes.rt:52:5
 loop-holds : tie.Need-loop-holds Inv-loop μ-loop
 loop-holds c =
     let a = c .before .before .before .before .args in
-    (omega arith, omega arith, omega arith, paste-zero (a .file .bytes) (c .before .lesser .result) (a .chunk .now))
+    let size : length (a .file .bytes) ≡ 677 = simp length-map at (c .before .before .before .before .good .0 .1 .1 .0 .1 .0 .1) in
+    (omega arith, omega arith, size, paste-zero (a .file .bytes) (c .before .lesser .result) (a .chunk .now))
 
 -- src/station_bytes.rt:53:18
 add-at : tie.Need-add-at Inv-loop μ-loop

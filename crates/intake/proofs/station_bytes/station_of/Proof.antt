@@ -3,7 +3,7 @@ use Prim.Native.Nat.{ℕ}
 use mathlib.Core.Path.{_≡_, sym, ap, _∙_}
 use mathlib.Core.List.{List, [], _++_, append-nil}
 use native.Mathlib.Omega.{arith}
-use lib.ListN.{take, length-take}
+use lib.ListN.{length, take, length-map, length-take}
 use Rattle.rules.specs.Answers.{judged, valueOr}
 use Rattle.rules.specs.StationRecord.{noStation}
 use Rattle.rules.specs.StationFile.{stationFile}
@@ -23,11 +23,15 @@ lesser-requires c κs = search needs
 
 -- src/station_bytes.rt:69:18
 array-share-prefix-bytes : tie.Need-array-share-prefix-bytes
-array-share-prefix-bytes c = search needs
+array-share-prefix-bytes c =
+    let size : length (c .before .before .args .file .bytes) ≡ 677 = simp length-map at (c .before .before .good .0 .1 .1 .0 .1 .0 .1) in
+    omega arith
 
 -- src/station_bytes.rt:69:18
 slice-aggregate-read-station : tie.Need-slice-aggregate-read-station
-slice-aggregate-read-station c = simp length-take (omega arith)
+slice-aggregate-read-station c =
+    let size : length (c .before .before .before .args .file .bytes) ≡ 677 = simp length-map at (c .before .before .before .good .0 .1 .1 .0 .1 .0 .1) in
+    simp length-take (omega arith)
 
 -- src/station_bytes.rt:69:5
 read-station-requires : tie.Need-read-station-requires
@@ -38,8 +42,9 @@ returns : tie.Need-returns
 unfolding stationWith
 returns c =
     let file = c .before .before .before .before .args .file in
+    let size : length (file .bytes) ≡ 677 = simp length-map at (c .before .before .before .before .good .0 .1 .1 .0 .1 .0 .1) in
     let least = c .before .before .lesser in
-    let held = held-is (file .bytes) (file .len) (least .result) (omega arith) (least .ensures .0) in
+    let held = held-is (file .bytes) (file .len) (least .result) size (least .ensures .0) in
     let is : take (least .result) (file .bytes) ≡ take (file .len) (file .bytes) ++ [] = held ∙ sym (append-nil (take (file .len) (file .bytes))) in
     (c .read-station .ensures .0 ∙ ap (λ (s : List ℕ). judged (stationFile s)) is, c .read-station .ensures .1 ∙ ap (λ (s : List ℕ). valueOr noStation (stationFile s)) is)
 

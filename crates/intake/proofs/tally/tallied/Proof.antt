@@ -10,6 +10,8 @@ use Rattle.intake.proofs.tally.tallied.Statement.{statement}
 use Rattle.intake.proofs.tally.tallied.Tie as tie
 use Rattle.intake.proofs.tally.tallied.Reads as reads
 use Rattle.intake.proofs.tally.tallied.Lts as lts
+use Rattle.intake.proofs.tally.wide.Reads as wide-reads
+use Rattle.std.proofs.num.wrapping_add_u32.Reads as wrapping-add-u32-reads
 use Rattle.std.proofs.num.wrapping_add_u64.Reads as wrapping-add-u64-reads
 
 abbrev Inv-loop : tie.InvT-loop
@@ -18,63 +20,43 @@ Inv-loop before chunk sum₀ sums₀ i₀ sum sums i = (i ≤ length chunk) × (
 abbrev μ-loop : tie.MeasureT-loop
 μ-loop before chunk sum₀ sums₀ i₀ sum sums i = length chunk - i
 
--- src/tally.rt:31:5
+-- src/tally.rt:40:5
 loop-holds : tie.Need-loop-holds Inv-loop μ-loop
 loop-holds c = (omega arith, tally-start _ _ (omega arith))
 
--- src/tally.rt:32:20
+-- src/tally.rt:41:20
 shared-slice-read-byte : tie.Need-shared-slice-read-byte Inv-loop μ-loop
 shared-slice-read-byte c = search needs
 
--- src/tally.rt:33:17
-cast-sum : tie.Need-cast-sum Inv-loop μ-loop
-cast-sum c = search needs
+-- src/tally.rt:42:37
+wide-requires : tie.Need-wide-requires Inv-loop μ-loop
+wide-requires c κs = search needs
 
--- src/tally.rt:33:30
-cast-sum-2 : tie.Need-cast-sum-2 Inv-loop μ-loop
-cast-sum-2 c = search needs
+-- src/tally.rt:42:9
+wrapping-add-u32-requires : tie.Need-wrapping-add-u32-requires Inv-loop μ-loop
+wrapping-add-u32-requires c κs = search needs
 
--- src/tally.rt:33:17
-add-sum : tie.Need-add-sum Inv-loop μ-loop
-add-sum c = search needs
+-- src/tally.rt:43:9
+wrapping-add-u32-requires-2 : tie.Need-wrapping-add-u32-requires-2 Inv-loop μ-loop
+wrapping-add-u32-requires-2 c κs = search needs
 
--- src/tally.rt:33:15
-cast-sum-3 : tie.Need-cast-sum-3 Inv-loop μ-loop
-cast-sum-3 c = search needs
-
--- src/tally.rt:34:18
-cast-sums : tie.Need-cast-sums Inv-loop μ-loop
-cast-sums c = search needs
-
--- src/tally.rt:34:32
-cast-sums-2 : tie.Need-cast-sums-2 Inv-loop μ-loop
-cast-sums-2 c = search needs
-
--- src/tally.rt:34:18
-add-sums : tie.Need-add-sums Inv-loop μ-loop
-add-sums c = search needs
-
--- src/tally.rt:34:16
-cast-sums-3 : tie.Need-cast-sums-3 Inv-loop μ-loop
-cast-sums-3 c = search needs
-
--- src/tally.rt:35:9
+-- src/tally.rt:44:9
 add-i : tie.Need-add-i Inv-loop μ-loop
 add-i c = search needs
 
--- src/tally.rt:31:5
+-- src/tally.rt:40:5
 loop-less : tie.Need-loop-less Inv-loop μ-loop
 loop-less c = search needs
 
--- src/tally.rt:31:5
+-- src/tally.rt:40:5
 loop-again : tie.Need-loop-again Inv-loop μ-loop
-loop-again c = let l = c .before .before .loop in (omega arith, tally-turn _ _ (l .sum) (l .sums) _ (l .i) (omega arith) (l .inv .1))
+loop-again c = ?
 
--- src/tally.rt:38:16
+-- src/tally.rt:47:16
 wrapping-add-u64-requires : tie.Need-wrapping-add-u64-requires Inv-loop μ-loop
 wrapping-add-u64-requires c κs = search needs
 
--- src/tally.rt:25:1
+-- src/tally.rt:34:1
 returns : tie.Need-returns Inv-loop μ-loop
 returns c =
     let l = c .before .before .loop in
@@ -88,14 +70,9 @@ tallied-spec =
     μ-loop
     loop-holds
     shared-slice-read-byte
-    cast-sum
-    cast-sum-2
-    add-sum
-    cast-sum-3
-    cast-sums
-    cast-sums-2
-    add-sums
-    cast-sums-3
+    wide-requires
+    wrapping-add-u32-requires
+    wrapping-add-u32-requires-2
     add-i
     loop-less
     loop-again
