@@ -19,16 +19,15 @@ tally-start t s h =
     let e : (t .count + 0) % countModulus ≡ t .count = ap (λ (n : ℕ). n % countModulus) (add-zero (t .count)) ∙ mod-eq-of-lt h in
     rw e
 
-pub tally-turn : (whole : Tally) (count sum sums : ℕ) (s : List ℕ) (i : ℕ) → i < length s → whole ≡ talliedOf (after count i sum sums) (drop i s)
-    → whole ≡ talliedOf (after count (i + 1) ((sum + getD s i 0) % sumModulus) ((sums + (sum + getD s i 0) % sumModulus) % sumModulus)) (drop (i + 1) s)
+-- the byte at place i more
+pub tally-turn : (whole : Tally) (count sum sums : ℕ) (s : List ℕ) (i byte next nexts : ℕ) → i < length s → whole ≡ talliedOf (after count i sum sums) (drop i s)
+    → byte ≡ getD s i 0 → next ≡ (sum + byte) % sumModulus → nexts ≡ (sums + next) % sumModulus
+    → whole ≡ talliedOf (after count (i + 1) next nexts) (drop (i + 1) s)
 unfolding talliedOf withByte
-tally-turn whole count sum sums s i h e =
-    let c : ((count + i) % countModulus + 1) % countModulus ≡ (count + (i + 1)) % countModulus = mod-add-mod (count + i) countModulus 1 ∙ ap (λ (n : ℕ). n % countModulus) (add-assoc count i 1) in
-    let byte = getD s i 0 in
-    let sum' = (sum + byte) % sumModulus in
-    e ∙ ap (talliedOf (after count i sum sums)) (drop-cons s i 0 h)
-    ∙ ap (λ (n : ℕ). talliedOf (record { count = n; sum = sum'; sums = (sums + sum') % sumModulus }) (drop (suc i) s)) c
-    ∙ rw (add-one i)
+tally-turn whole count sum sums s i byte next nexts h e b n m =
+    let c : ((count + i) % countModulus + 1) % countModulus ≡ (count + (i + 1)) % countModulus =
+    mod-add-mod (count + i) countModulus 1 ∙ ap (λ (k : ℕ). k % countModulus) (add-assoc count i 1) in
+    rw (m, n, b, ← c, add-one i) (e ∙ ap (talliedOf (after count i sum sums)) (drop-cons s i 0 h))
 
 pub tally-end : (whole : Tally) (count sum sums : ℕ) (s : List ℕ) (i : ℕ) → length s ≤ i → whole ≡ talliedOf (after count i sum sums) (drop i s) → after count i sum sums ≡ whole
 unfolding talliedOf

@@ -50,7 +50,13 @@ loop-less c = search needs
 
 -- src/tally.rt:40:5
 loop-again : tie.Need-loop-again Inv-loop μ-loop
-loop-again c = ?
+loop-again c =
+    let l = c .before .before .before .before .before .loop in
+    let wide = c .before .before .wide in
+    let sum = c .before .wrapping-add-u32 in
+    let sums = c .wrapping-add-u322 in
+    let turn = tally-turn _ _ (l .sum) (l .sums) _ (l .i) (wide .result) (sum .result) (sums .result) (omega arith) (l .inv .1) (wide .ensures) (sum .ensures) (sums .ensures) in
+    (omega arith, turn)
 
 -- src/tally.rt:47:16
 wrapping-add-u64-requires : tie.Need-wrapping-add-u64-requires Inv-loop μ-loop
