@@ -2,3 +2,6 @@
 pub mod StationLaws
 pub mod AskedLaws
 pub mod TallyLaws
+pub mod StationChunks
+pub mod TallyChunks
+pub mod SecondsAsked
