@@ -8,7 +8,7 @@ use Rattle.rules.specs.Numbers.{if_then_else_}
 use Rattle.rules.specs.Answers.{Answer, accepted, refused, need, _>>_}
 use Rattle.rules.specs.Bytes.{digits, value}
 use Rattle.rules.specs.RunRecord.{mostSeconds}
-use Rattle.rules.specs.SampleFile.{limited, timeCell}
+use Rattle.rules.specs.SampleFile.{timeCell}
 use Rattle.rules.specs.Run.{secondsAsked}
 use Rattle.sheet.specs.declared.numbers.CellValue.{CellValue}
 use Rattle.sheet.specs.Cells.{cellOf}

@@ -1,4 +1,5 @@
--- Laws of the bytes held, of the seconds asked and of the tally, and the theorems over every list of chunks.
+-- Laws of ranges, of the bytes held, of the seconds asked and of the tally, and the theorems over every list of chunks.
+pub mod RangeLaws
 pub mod StationLaws
 pub mod AskedLaws
 pub mod TallyLaws

@@ -8,7 +8,7 @@ use lib.ListN.{length, length-append}
 use Rattle.rules.specs.Answers.{refused}
 use Rattle.rules.specs.Bytes.{digits}
 use Rattle.rules.specs.Run.{secondsAsked}
-use Rattle.intake.proofs.StationLaws.{over-range}
+use Rattle.intake.proofs.RangeLaws.{over-range}
 
 pub long-asked : (s more : List ℕ) → 10 ≤ length s → secondsAsked (s ++ more) ≡ refused 18 0
 unfolding secondsAsked digits

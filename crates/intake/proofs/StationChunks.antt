@@ -60,8 +60,8 @@ fed-owes {f} {g} {chunk} a =
 feeds-right : {f last : StationBytes} {chunks : List (List ℕ)} → Feeds Fed f chunks last → (rest : List ℕ) → stationWith f (joined chunks ++ rest) ≡ stationWith last rest
 unfolding joined
 feeds-right Feeds.none rest = refl
-feeds-right {f} (Feeds.more {chunk = chunk} {chunks = chunks} one more) rest =
-    ap (stationWith f) (append-assoc chunk (joined chunks) rest) ∙ fed-owes one (joined chunks ++ rest) ∙ feeds-right more rest
+feeds-right {f} (Feeds.more {chunk = chunk} {chunks = chunks} one others) rest =
+    ap (stationWith f) (append-assoc chunk (joined chunks) rest) ∙ fed-owes one (joined chunks ++ rest) ∙ feeds-right others rest
 
 -- ---- THE STATION FILE, over every list of chunks
 

@@ -1,30 +1,18 @@
 -- The station file as it arrives: the bytes held and those that follow, and a file that is too long. Assumes nothing.
 use Prim.Native.Nat.{ℕ, _+_, _≤_, _<_, min}
 use mathlib.Core.Path.{_≡_, refl, sym, ap, _∙_}
-use mathlib.Core.Bool.{Bool, true, false, _&&_}
 use mathlib.Core.List.{List, _++_, append-assoc}
 use native.Mathlib.Numerals.{add-one}
 use native.Mathlib.Omega.{arith}
 use native.Mathlib.Decide.{decLt}
-use lib.Dec.{leb}
 use lib.ListN.{length, take, getD, set, length-append, length-take}
 use lib.Seq.{take-all, take-length, paste, paste-suc, take-paste}
-use borrow.Author.Tests.{lt-leb}
-use Rattle.rules.specs.Numbers.{within}
 use Rattle.rules.specs.declared.station.Station.{Station}
 use Rattle.rules.specs.declared.answers.Verdict.{Verdict}
 use Rattle.rules.specs.Answers.{Answer, accepted, refused, judged, verdictOf}
 use Rattle.rules.specs.StationFile.{contentsRight, stationFile}
 use Rattle.intake.specs.Stations.{isRefused}
-
--- ---- a number over its range
-
-and-false : (b : Bool) → b && false ≡ false
-and-false true = refl
-and-false false = refl
-
-pub over-range : (least most n : ℕ) → most < n → within least most n ≡ false
-over-range least most n h = rw (lt-leb n most h) (and-false (leb least n))
+use Rattle.intake.proofs.RangeLaws.{over-range}
 
 -- "a file has 165 to 676 bytes": one with more is refused with 1, whatever its bytes are
 pub too-long : (s : List ℕ) → 676 < length s → stationFile s ≡ refused 1 0

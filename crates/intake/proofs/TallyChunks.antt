@@ -3,7 +3,7 @@
 -- All that is known of a call is what the function's own contract ensures. Assumes nothing.
 use Prim.Native.Nat.{ℕ}
 use mathlib.Core.Path.{_≡_, refl, sym, ap, _∙_}
-use mathlib.Core.List.{List, [], _∷_, _++_}
+use mathlib.Core.List.{List, [], _∷_}
 use borrow.Fn.Kinds as kinds
 use contract.Lifetimes.{Lfts}
 use denote.Ref.{now}
@@ -45,8 +45,8 @@ counted-owes {t} {u} {chunk} a =
 pub tally-after-chunks : (chunks : List (List ℕ)) (first last : Tally) → Feeds Counted first chunks last → last ≡ talliedOf first (joined chunks)
 unfolding joined talliedOf
 tally-after-chunks [] first last Feeds.none = refl
-tally-after-chunks (chunk ∷ chunks) first last (Feeds.more {t = next} one more) =
-    tally-after-chunks chunks next last more
+tally-after-chunks (chunk ∷ chunks) first last (Feeds.more {t = next} one others) =
+    tally-after-chunks chunks next last others
     ∙ ap (λ (t : Tally). talliedOf t (joined chunks)) (counted-owes one)
     ∙ sym (tallied-append first chunk (joined chunks))
 

@@ -2,7 +2,6 @@
 ghost use mathlib.Core.Path.{_≡_};
 ghost use mathlib.Core.List.{List, [], _++_};
 ghost use Prim.Native.Nat.{ℕ, _≤_, min};
-ghost use lib.ListN.{length, take};
 ghost use Rattle.rules.specs.StationFile.{stationFile};
 ghost use Rattle.rules.specs.Answers.{judged, valueOr, verdictOf};
 ghost use Rattle.rules.specs.StationRecord.{noStation};

@@ -1,7 +1,5 @@
 // A count and a checksum of the bytes of a pass: where those of two passes differ, the file changed between them.
 ghost use mathlib.Core.Path.{_≡_};
-ghost use mathlib.Core.List.{List, [], _++_};
-ghost use Prim.Native.Nat.{ℕ};
 ghost use Rattle.intake.specs.Tally.{noBytes, talliedOf, sameTally};
 use std::num::wrapping_add_u32;
 use std::num::wrapping_add_u64;
@@ -38,8 +36,8 @@ pub fn tallied(before: Tally, chunk: &[u8]) -> Tally
     let mut sums = before.sums;
     let mut i = 0;
     while i < chunk.len() {
-        let byte = chunk[i];
-        sum = wrapping_add_u32(sum, wide(byte));
+        let byte = wide(chunk[i]);
+        sum = wrapping_add_u32(sum, byte);
         sums = wrapping_add_u32(sums, sum);
         i += 1;
     }

@@ -25,8 +25,8 @@ loop-holds : tie.Need-loop-holds Inv-loop μ-loop
 loop-holds c = (omega arith, tally-start _ _ (omega arith))
 
 -- src/tally.rt:41:20
-shared-slice-read-byte : tie.Need-shared-slice-read-byte Inv-loop μ-loop
-shared-slice-read-byte c = search needs
+shared-slice-read-wide : tie.Need-shared-slice-read-wide Inv-loop μ-loop
+shared-slice-read-wide c = search needs
 
 -- src/tally.rt:42:37
 wide-requires : tie.Need-wide-requires Inv-loop μ-loop
@@ -75,7 +75,7 @@ tallied-spec =
     Inv-loop
     μ-loop
     loop-holds
-    shared-slice-read-byte
+    shared-slice-read-wide
     wide-requires
     wrapping-add-u32-requires
     wrapping-add-u32-requires-2
