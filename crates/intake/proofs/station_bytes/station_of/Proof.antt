@@ -1,0 +1,59 @@
+-- `intake::station_bytes::station_of` meets its contract. Assumes nothing.
+use Prim.Native.Nat.{ℕ}
+use mathlib.Core.Path.{_≡_, sym, ap, _∙_}
+use mathlib.Core.List.{List, [], _++_, append-nil}
+use native.Mathlib.Omega.{arith}
+use lib.ListN.{length, take, length-map, length-take}
+use Rattle.rules.specs.Answers.{judged, valueOr}
+use Rattle.rules.specs.StationRecord.{noStation}
+use Rattle.rules.specs.StationFile.{stationFile}
+use Rattle.intake.specs.Stations.{stationWith}
+use Rattle.intake.proofs.StationLaws.{held-is}
+use borrow.Author.Needs.{needs}
+use Rattle.intake.proofs.station_bytes.station_of.Statement.{statement}
+use Rattle.intake.proofs.station_bytes.station_of.Tie as tie
+use Rattle.intake.proofs.station_bytes.station_of.Reads as reads
+use Rattle.intake.proofs.station_bytes.station_of.Lts as lts
+use Rattle.intake.proofs.station_bytes.lesser.Reads as lesser-reads
+use Rattle.station.proofs.reader.read_station.Reads as read-station-reads
+
+-- src/station_bytes.rt:68:9
+lesser-requires : tie.Need-lesser-requires
+lesser-requires c κs = search needs
+
+-- src/station_bytes.rt:69:18
+array-share-prefix-bytes : tie.Need-array-share-prefix-bytes
+array-share-prefix-bytes c =
+    let size : length (c .before .before .args .file .bytes) ≡ 677 = simp length-map at (c .before .before .good .0 .1 .1 .0 .1 .0 .1) in
+    omega arith
+
+-- src/station_bytes.rt:69:18
+slice-aggregate-read-station : tie.Need-slice-aggregate-read-station
+slice-aggregate-read-station c =
+    let size : length (c .before .before .before .args .file .bytes) ≡ 677 = simp length-map at (c .before .before .before .good .0 .1 .1 .0 .1 .0 .1) in
+    simp length-take (omega arith)
+
+-- src/station_bytes.rt:69:5
+read-station-requires : tie.Need-read-station-requires
+read-station-requires c κs = search needs
+
+-- src/station_bytes.rt:64:1
+returns : tie.Need-returns
+unfolding stationWith
+returns c =
+    let file = c .before .before .before .before .args .file in
+    let size : length (file .bytes) ≡ 677 = simp length-map at (c .before .before .before .before .good .0 .1 .1 .0 .1 .0 .1) in
+    let least = c .before .before .lesser in
+    let held = held-is (file .bytes) (file .len) (least .result) size (least .ensures .0) in
+    let is : take (least .result) (file .bytes) ≡ take (file .len) (file .bytes) ++ [] = held ∙ sym (append-nil (take (file .len) (file .bytes))) in
+    (c .read-station .ensures .0 ∙ ap (λ (s : List ℕ). judged (stationFile s)) is, c .read-station .ensures .1 ∙ ap (λ (s : List ℕ). valueOr noStation (stationFile s)) is)
+
+pub station-of-spec : {M : Type 1} → statement M
+station-of-spec =
+    tie.close
+    (tie.spec
+    lesser-requires
+    array-share-prefix-bytes
+    slice-aggregate-read-station
+    read-station-requires
+    returns)

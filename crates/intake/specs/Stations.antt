@@ -1,0 +1,17 @@
+-- Document 01, "The station file", as it arrives: what the bytes that are there and those still to come make together.
+use Prim.Native.Nat.{ℕ}
+use mathlib.Core.Bool.{Bool, true, false}
+use mathlib.Core.List.{List, _++_}
+use lib.ListN.{take}
+use Rattle.rules.specs.declared.station.Station.{Station}
+use Rattle.rules.specs.Answers.{Answer, accepted, refused}
+use Rattle.rules.specs.StationFile.{stationFile}
+use Rattle.intake.specs.declared.station_bytes.StationBytes.{StationBytes}
+
+-- what the file comes to, where `rest` is still to arrive
+unfoldable pub stationWith : StationBytes → List ℕ → Answer Station
+stationWith f rest = stationFile (take (f .len) (f .bytes) ++ rest)
+
+abbrev pub isRefused : {A : Type 0} → Answer A → Bool
+isRefused (accepted a) = false
+isRefused (refused number place) = true
