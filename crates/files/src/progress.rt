@@ -1,4 +1,6 @@
 // How far a long reading has come, for whoever watches a terminal.
+ghost use mathlib.Core.Path.{_≡_};
+ghost use Prim.Native.Nat.{_+_, _%_, _^_};
 use crate::source::Program;
 use crate::source::say_name;
 use explain::plain_words::number;
@@ -15,7 +17,9 @@ pub fn is_watched() -> bool {
 }
 
 // Says how much was read where a further 256 MB are full, and answers it.
-pub fn say_read(program: Program, watched: bool, before: u64, count: usize) -> u64 {
+pub fn say_read(program: Program, watched: bool, before: u64, count: usize) -> u64
+    ensures { λ r. ⌜ r ≡ (before + count) % 2 ^ 64 ⌝ }
+{
     let bytes = std::num::wrapping_add_u64(before, count as u64);
     if !watched {
         return bytes;

@@ -9,21 +9,18 @@ use simulation::state::Wants;
 // The least that a row may be lent.
 pub(crate) const LEAST_ROOM: usize = 256;
 
-// Where a run stands once a chunk was handed to it.
+// Where a run stands after a call with a chunk.
 pub(crate) struct Handed {
     pub(crate) simulation: Simulation,
     pub(crate) progress: Progress,
+    // the chunk is to be read on here
+    next: usize,
+    // whether the same chunk is to be handed over once more
+    again: bool,
     // false where standard output did not take the bytes, which a message has said
     pub(crate) taken: bool,
     // whether the run wants no further call
     pub(crate) over: bool,
-}
-
-// What is to be done after a call.
-enum Next {
-    Again,
-    Chunk,
-    Stop,
 }
 
 // Whether standard output took the first bytes of the buffer; the message goes to standard error at once, with the system's reason.
@@ -41,34 +38,41 @@ fn is_taken(out: &[u8], size: usize) -> bool {
     false
 }
 
-// A buffer without room for a row would be asked for for ever, so a call that wants room and wrote nothing is the last.
-fn next_for(wants: Wants, size: usize) -> Next {
+fn is_input(wants: Wants) -> bool {
     match wants {
-        Wants::Further => Next::Stop,
-        Wants::Input => Next::Chunk,
-        Wants::Room => {
-            if size == 0 {
-                return Next::Stop;
-            }
-            Next::Again
-        }
-        Wants::Nothing => Next::Stop,
+        Wants::Further => false,
+        Wants::Input => true,
+        Wants::Room => false,
+        Wants::Nothing => false,
     }
 }
 
-fn is_again(next: Next) -> bool {
-    match next {
-        Next::Again => true,
-        Next::Chunk => false,
-        Next::Stop => false,
+fn is_room(wants: Wants) -> bool {
+    match wants {
+        Wants::Further => false,
+        Wants::Input => false,
+        Wants::Room => true,
+        Wants::Nothing => false,
     }
 }
 
-fn is_stop(next: Next) -> bool {
-    match next {
-        Next::Again => false,
-        Next::Chunk => false,
-        Next::Stop => true,
+// One call, and what it hands over. A call that wants room and wrote nothing is the last, since a buffer without room for a row would be
+// asked for for ever.
+fn call(before: Handed, chunk: &[u8], ended: bool, out: &mut [u8]) -> Handed {
+    let turn = advance(before.simulation, chunk, before.next, ended, out);
+    let simulation = turn.simulation;
+    let size = turn.written;
+    let wants = turn.wants;
+    let progress = say_worked(before.progress, simulation);
+    let taken = is_taken(out, size);
+    let again = is_room(wants) & (0 < size);
+    Handed {
+        simulation,
+        progress,
+        next: turn.next,
+        again: again & taken,
+        taken,
+        over: !(again | is_input(wants)),
     }
 }
 
@@ -80,40 +84,21 @@ pub(crate) fn hand_over(
     ended: bool,
     out: &mut [u8],
 ) -> Handed {
-    let mut latest = simulation;
-    let mut told = progress;
-    let mut at = 0;
+    let mut handed = Handed {
+        simulation,
+        progress,
+        next: 0,
+        again: true,
+        taken: true,
+        over: false,
+    };
     let mut turns = u64::MAX;
     while turns > 0 {
         turns -= 1;
-        let turn = advance(latest, chunk, at, ended, out);
-        latest = turn.simulation;
-        at = turn.next;
-        let size = turn.written;
-        let wants = turn.wants;
-        if !is_taken(out, size) {
-            return Handed {
-                simulation: latest,
-                progress: told,
-                taken: false,
-                over: true,
-            };
-        }
-        told = say_worked(told, latest);
-        let next = next_for(wants, size);
-        if !is_again(next) {
-            return Handed {
-                simulation: latest,
-                progress: told,
-                taken: true,
-                over: is_stop(next),
-            };
+        handed = call(handed, chunk, ended, out);
+        if !handed.again {
+            return handed;
         }
     }
-    Handed {
-        simulation: latest,
-        progress: told,
-        taken: true,
-        over: true,
-    }
+    handed
 }

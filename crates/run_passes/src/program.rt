@@ -2,14 +2,17 @@
 use crate::answer::Answer;
 use crate::answer::tell_answer;
 use crate::output::LEAST_ROOM;
-use crate::sample_runs::refused_at_once;
+use crate::sample_runs::refuse;
 use crate::sample_runs::run_samples;
 use crate::station_pass::hear_station;
 use explain::plain_words::say;
 use intake::station_bytes::StationBytes;
 use intake::station_bytes::is_station_refused;
+use samples::check::check;
 use samples::check::finish;
 use simulation::begin::begin;
+use simulation::state::Phase;
+use simulation::state::phase_of;
 
 // How the program was called.
 enum Call {
@@ -48,8 +51,12 @@ fn call_of(count: usize) -> Call {
 
 // The sample file is not looked at where the station is refused, so no check of it counts.
 fn refuse_station(file: StationBytes, out: &mut [u8]) -> Answer {
-    let unread = finish(samples::check::check());
-    refused_at_once(begin(file, unread, b""), out)
+    let simulation = begin(file, finish(check()), b"");
+    let phase = phase_of(simulation);
+    let Phase::Refusal(refusal) = phase else {
+        return Answer::Nothing;
+    };
+    refuse(simulation, refusal, out)
 }
 
 // The station comes first, so that its refusal is printed whatever the sample file is.

@@ -1,4 +1,6 @@
 // How far the seconds have come, for whoever watches a terminal.
+ghost use mathlib.Core.Path.{_≡_};
+ghost use Prim.Native.Nat.{_-_};
 use explain::plain_words::number;
 use explain::plain_words::say;
 use simulation::state::Simulation;
@@ -24,7 +26,9 @@ pub(crate) fn progress_of(simulation: Simulation) -> Progress {
     }
 }
 
-fn done_of(asked: u32, left: u32) -> u32 {
+fn done_of(asked: u32, left: u32) -> u32
+    ensures { λ r. ⌜ r ≡ asked - left ⌝ }
+{
     if asked < left {
         return 0;
     }

@@ -26,40 +26,13 @@ use simulation::state::Simulation;
 use simulation::state::phase_of;
 
 // A run that is refused: its line, and then the words to it.
-fn refuse(simulation: Simulation, refusal: Refusal, out: &mut [u8]) -> Answer {
+pub(crate) fn refuse(simulation: Simulation, refusal: Refusal, out: &mut [u8]) -> Answer {
     let handed = hand_over(simulation, progress_of(simulation), b"", true, out);
     if !handed.taken {
         return Answer::Nothing;
     }
     say_refusal(refusal);
     Answer::Refused
-}
-
-// Prints the refusal that a run begins with, where it has one.
-pub(crate) fn refused_at_once(simulation: Simulation, out: &mut [u8]) -> Answer {
-    let phase = phase_of(simulation);
-    match phase {
-        Phase::Refusal(refusal) => refuse(simulation, refusal, out),
-        Phase::Heading => Answer::Nothing,
-        Phase::Seconds => Answer::Nothing,
-        Phase::SetHeading => Answer::Nothing,
-        Phase::SetLine(_) => Answer::Nothing,
-        Phase::Over => Answer::Nothing,
-        Phase::Broken => Answer::Nothing,
-    }
-}
-
-fn is_refusal(simulation: Simulation) -> bool {
-    let phase = phase_of(simulation);
-    match phase {
-        Phase::Refusal(_) => true,
-        Phase::Heading => false,
-        Phase::Seconds => false,
-        Phase::SetHeading => false,
-        Phase::SetLine(_) => false,
-        Phase::Over => false,
-        Phase::Broken => false,
-    }
 }
 
 fn say_read_once(path: &[u8]) {
@@ -132,8 +105,9 @@ fn run_checked(
     buf: &mut [u8],
     out: &mut [u8],
 ) -> Answer {
-    if is_refusal(simulation) {
-        return refused_at_once(simulation, out);
+    let phase = phase_of(simulation);
+    if let Phase::Refusal(refusal) = phase {
+        return refuse(simulation, refusal, out);
     }
     if !is_at_start(fd, path) {
         return Answer::Nothing;

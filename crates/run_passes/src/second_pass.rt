@@ -25,15 +25,10 @@ pub(crate) enum Worked {
 }
 
 fn worked_of(phase: Phase) -> Worked {
-    match phase {
-        Phase::Refusal(_) => Worked::Broken,
-        Phase::Heading => Worked::Broken,
-        Phase::Seconds => Worked::Broken,
-        Phase::SetHeading => Worked::Broken,
-        Phase::SetLine(_) => Worked::Broken,
-        Phase::Over => Worked::Complete,
-        Phase::Broken => Worked::Broken,
-    }
+    let Phase::Over = phase else {
+        return Worked::Broken;
+    };
+    Worked::Complete
 }
 
 // The end of the file. The run is told of it only where both passes saw the same, so that no set's line follows rows of other samples.

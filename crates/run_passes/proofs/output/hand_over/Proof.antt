@@ -7,10 +7,10 @@ use Rattle.run_passes.proofs.output.hand_over.Statement.{statement}
 use Rattle.run_passes.proofs.output.hand_over.Tie as tie
 
 abbrev Inv-loop : tie.InvT-loop
-Inv-loop chunk ended out₀ latest₀ told₀ at₀ turns₀ out latest told at turns = length out ≡ length out₀
+Inv-loop chunk ended out₀ handed₀ turns₀ out handed turns = length out ≡ length out₀
 
 abbrev μ-loop : tie.MeasureT-loop
-μ-loop chunk ended out₀ latest₀ told₀ at₀ turns₀ out latest told at turns = turns
+μ-loop chunk ended out₀ handed₀ turns₀ out handed turns = turns
 
 loop-holds : tie.Need-loop-holds Inv-loop μ-loop
 loop-holds c = search needs
@@ -18,11 +18,8 @@ loop-holds c = search needs
 sub-turns : tie.Need-sub-turns Inv-loop μ-loop
 sub-turns c = search needs
 
-advance-requires : tie.Need-advance-requires Inv-loop μ-loop
-advance-requires c κs = search needs
-
-is-taken-requires : tie.Need-is-taken-requires Inv-loop μ-loop
-is-taken-requires c κs = search needs
+call-requires : tie.Need-call-requires Inv-loop μ-loop
+call-requires c κs = search needs
 
 same-length : tie.Need-same-length Inv-loop μ-loop
 same-length c = search needs
@@ -30,35 +27,17 @@ same-length c = search needs
 returns : tie.Need-returns Inv-loop μ-loop
 returns c = search needs
 
-say-worked-requires : tie.Need-say-worked-requires Inv-loop μ-loop
-say-worked-requires c κs = search needs
-
-next-for-requires : tie.Need-next-for-requires Inv-loop μ-loop
-next-for-requires c κs = search needs
-
-is-again-requires : tie.Need-is-again-requires Inv-loop μ-loop
-is-again-requires c κs = search needs
-
-is-stop-requires : tie.Need-is-stop-requires Inv-loop μ-loop
-is-stop-requires c κs = search needs
-
-same-length-2 : tie.Need-same-length-2 Inv-loop μ-loop
-same-length-2 c = search needs
-
-returns-2 : tie.Need-returns-2 Inv-loop μ-loop
-returns-2 c = search needs
-
 loop-less : tie.Need-loop-less Inv-loop μ-loop
 loop-less c = search needs
 
 loop-again : tie.Need-loop-again Inv-loop μ-loop
 loop-again c = search needs
 
-same-length-3 : tie.Need-same-length-3 Inv-loop μ-loop
-same-length-3 c = search needs
+same-length-2 : tie.Need-same-length-2 Inv-loop μ-loop
+same-length-2 c = search needs
 
-returns-3 : tie.Need-returns-3 Inv-loop μ-loop
-returns-3 c = search needs
+returns-2 : tie.Need-returns-2 Inv-loop μ-loop
+returns-2 c = search needs
 
 pub hand-over-spec : {M : Type 1} → statement M
 hand-over-spec =
@@ -68,17 +47,10 @@ hand-over-spec =
     μ-loop
     loop-holds
     sub-turns
-    advance-requires
-    is-taken-requires
+    call-requires
     same-length
     returns
-    say-worked-requires
-    next-for-requires
-    is-again-requires
-    is-stop-requires
-    same-length-2
-    returns-2
     loop-less
     loop-again
-    same-length-3
-    returns-3)
+    same-length-2
+    returns-2)
