@@ -8,6 +8,9 @@ terminal, and memory. The files are written to build/run-program.
 """
 import filecmp, os, pty, resource, shutil, signal, struct, subprocess, sys, threading, time
 
+sys.dont_write_bytecode = True  # no folder of compiled modules among the sources
+from c_drivers import C11, must
+
 ROOT = os.path.dirname(os.path.dirname(os.path.abspath(__file__)))
 RUN = os.path.join('bin', 'run')
 PROGRAM = os.path.join('target', 'bin', 'run_files')
@@ -32,10 +35,6 @@ def fail(case, message):
     sys.exit(1)
 
 
-def is_plain(told):
-    return all(byte == 10 or 32 <= byte < 127 for byte in told)
-
-
 def held(case, got, status, answer, said, told):
     """Standard output, status and words of one run; an `answer` of None is not looked at."""
     global passed
@@ -49,7 +48,7 @@ def held(case, got, status, answer, said, told):
             fail(case, 'standard error has no %r:\n%s' % (each, words))
     if not said and words:
         fail(case, 'standard error is not silent:\n%s' % words)
-    if not is_plain(told):
+    if any(byte != 10 and not 32 <= byte < 127 for byte in told):
         fail(case, 'standard error has a byte that is not printable: %r' % told)
     passed += 1
 
@@ -105,13 +104,11 @@ def check_answers():
     complete('leading zeros in the seconds', [STATION_A, SAMPLES_A, '000000005'], rows)
     complete('lines that end in CR LF', [STATION_A, file_of('crlf.csv', samples.replace(b'\n', b'\r\n')), '5'], rows)
     complete('a last line without LF', [STATION_A, file_of('last.csv', samples[:-1]), '5'], rows)
-    lines = rows.split(b'\n')
     complete('0 seconds', [STATION_A, SAMPLES_A, '0'], ROW_HEADING + SET_HEADING + b'1,0,0,0,0,0\n2,0,0,0,0,0\n')
     seconds = subprocess.run([PROGRAM, STATION_A, SAMPLES_A, '3'], stdout=subprocess.PIPE).stdout.split(b'\n')
-    if seconds[:4] != lines[:4] or seconds[4] + b'\n' != SET_HEADING or len(seconds) != 8:
+    if seconds[:4] != rows.split(b'\n')[:4] or seconds[4] + b'\n' != SET_HEADING or len(seconds) != 8:
         fail('3 seconds of a longer sheet', '%r' % seconds)
-    skipped = samples + b'2,99,99,9\n3,1,1,1\n'
-    complete('rows that are skipped', [STATION_A, file_of('skipped.csv', skipped), '5'], rows)
+    complete('rows that are skipped', [STATION_A, file_of('skipped.csv', samples + b'2,99,99,9\n3,1,1,1\n'), '5'], rows)
 
 
 def check_refusals():
@@ -180,10 +177,28 @@ def check_files():
     held('a station from standard input', (got.stdout, got.stderr.decode()), (got.returncode, COMPLETE), content_of(ROWS_A), [], got.stderr)
 
 
-def check_read_that_fails():
-    """/proc/self/mem can be opened and sought, but no byte can be read at 0."""
-    unanswered('a station that cannot be read', ['/proc/self/mem', SAMPLES_A, '5'], ['station file', 'cannot be read', 'Input/output error'])
-    unanswered('samples that cannot be read', [STATION_A, '/proc/self/mem', '5'], ['sample file', 'cannot be read', 'Input/output error'])
+def hindered(words, **settings):
+    """A run of the program with the calls of tests/run/hindered.c."""
+    library = os.path.join(OUT, 'hindered.so')
+    if not os.path.exists(library):
+        must(C11 + ['-shared', '-fPIC', os.path.join('tests', 'run', 'hindered.c'), '-o', library])
+    more = dict(os.environ, LD_PRELOAD=os.path.abspath(library), **settings)
+    return subprocess.run([PROGRAM] + words, stdout=subprocess.PIPE, stderr=subprocess.PIPE, env=more, timeout=LONGEST)
+
+
+def check_hindered_calls():
+    """Station A takes six reads: the station and its end, and both passes over the samples with theirs. None that fails is an end."""
+    unread = ['cannot be read', 'Input/output error']
+    for call, which in ((1, 'station'), (2, 'station'), (3, 'sample'), (4, 'sample'), (5, 'sample'), (6, 'sample')):
+        got = hindered([STATION_A, SAMPLES_A, '5'], FAIL_AT=str(call))
+        words = unread + [which + ' file'] + (['not to be used'] if call > 4 else [])
+        held('read %d fails' % call, (got.stdout, got.stderr.decode()), None, None if call == 6 else b'', words, got.stderr)
+    if not content_of(ROWS_A).startswith(got.stdout) or SET_HEADING in got.stdout:
+        fail('read 6 fails', 'standard output is %r' % got.stdout)
+    got = hindered([STATION_A, SAMPLES_A, '5'], FAIL_AT='7')
+    held('read 7 would fail', (got.stdout, got.stderr.decode()), None, content_of(ROWS_A), [], got.stderr)
+    got = hindered([STATION_A, SAMPLES_A, '5'], MOST_TAKEN='7')
+    held('writes that take 7 bytes', (got.stdout, got.stderr.decode()), None, content_of(ROWS_A), [], got.stderr)
 
 
 def check_output():
@@ -373,7 +388,7 @@ check_answers()
 check_refusals()
 check_arguments()
 check_files()
-check_read_that_fails()
+check_hindered_calls()
 check_output()
 check_changes()
 check_progress()

@@ -64,6 +64,7 @@ fn answer_to(worked: Worked, path: &[u8]) -> Answer {
         Worked::Complete => Answer::Complete,
         Worked::Unread => {
             say_unread(Program::Run, Which::Samples, path);
+            say(b"run: the rows are not to be used.\n");
             Answer::Nothing
         }
         Worked::Changed => {
