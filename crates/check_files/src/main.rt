@@ -12,16 +12,17 @@ mod source;
 use crate::answer::print_refused;
 use crate::sheet_answer::answer_sheet;
 use crate::source::Filled;
-use crate::source::Opened;
-use crate::source::Which;
 use crate::source::fill;
-use crate::source::is_named;
-use crate::source::open_file;
-use crate::source::say_unread;
 use explain::plain_words::number;
 use explain::plain_words::say;
 use explain::station_faults::say_station_fault;
 use explain::titles::say_station_title;
+use files::source::Opened;
+use files::source::Program;
+use files::source::Which;
+use files::source::is_named;
+use files::source::open_named;
+use files::source::say_unread;
 use rules::answers::Refusal;
 use rules::answers::Verdict;
 use station::reader::read_station;
@@ -44,16 +45,16 @@ fn station_bytes(file: &mut [u8]) -> Filled
     };
     let mut path = io::buffer();
     let end = os::arg(1, &mut path);
-    if !is_named(Which::Station) {
+    if !is_named(Program::Check, Which::Station) {
         return nothing;
     }
-    let found = open_file(Which::Station, &path[..end]);
+    let found = open_named(Program::Check, Which::Station, &path[..end]);
     let Opened::At(fd) = found else {
         return nothing;
     };
     let got = fill(fd, file);
     if got.failed {
-        say_unread(Which::Station, &path[..end]);
+        say_unread(Program::Check, Which::Station, &path[..end]);
     }
     libc::close(fd);
     got

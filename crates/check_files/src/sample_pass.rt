@@ -1,15 +1,11 @@
 // The check of the sample file: one buffer, however long the file is.
-use explain::plain_words::number;
-use explain::plain_words::say;
+use files::progress::is_watched;
+use files::progress::say_read;
+use files::source::Program;
 use samples::check::SampleCheck;
 use samples::check::check;
 use samples::check::feed;
 use samples::check::is_refused;
-
-// Whoever watches a terminal is told of each further 256 MB.
-const TOLD_EACH: u64 = 256_000_000;
-
-const MEGABYTE: u64 = 1_000_000;
 
 // The check once nothing more need be read, or the last read failed.
 pub(crate) struct Heard {
@@ -17,24 +13,9 @@ pub(crate) struct Heard {
     pub(crate) failed: bool,
 }
 
-// Says how much was read where a further 256 MB are full, and answers it.
-fn say_read(watched: bool, before: u64, count: usize) -> u64 {
-    let bytes = std::num::wrapping_add_u64(before, count as u64);
-    if !watched {
-        return bytes;
-    }
-    if bytes / TOLD_EACH <= before / TOLD_EACH {
-        return bytes;
-    }
-    say(b"check: ");
-    number(bytes / MEGABYTE);
-    say(b" MB read\n");
-    bytes
-}
-
 // Reads to the end of the file. A line that is refused ends the reading, so that a line without end does too.
 pub(crate) fn hear(fd: i32, buf: &mut [u8]) -> Heard {
-    let watched = libc::isatty(libc::STDERR_FILENO) == 1;
+    let watched = is_watched();
     let mut check = check();
     let mut bytes: u64 = 0;
     let mut turns = u64::MAX;
@@ -55,7 +36,7 @@ pub(crate) fn hear(fd: i32, buf: &mut [u8]) -> Heard {
                 failed: false,
             };
         }
-        bytes = say_read(watched, bytes, count);
+        bytes = say_read(Program::Check, watched, bytes, count);
     }
     Heard {
         check,

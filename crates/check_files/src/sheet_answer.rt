@@ -3,11 +3,6 @@ use crate::answer::print_accepted;
 use crate::answer::print_refused;
 use crate::line_search::line_of;
 use crate::sample_pass::hear;
-use crate::source::Opened;
-use crate::source::Which;
-use crate::source::is_named;
-use crate::source::open_file;
-use crate::source::say_unread;
 use explain::columns::MOST_HELD;
 use explain::line_words::say_fault;
 use explain::line_words::say_rule;
@@ -17,6 +12,12 @@ use explain::plain_words::number;
 use explain::plain_words::say;
 use explain::station_words::say_station_file;
 use explain::titles::say_sheet_title;
+use files::source::Opened;
+use files::source::Program;
+use files::source::Which;
+use files::source::is_named;
+use files::source::open_named;
+use files::source::say_unread;
 use rules::answers::Refusal;
 use samples::check::Checked;
 use samples::check::Span;
@@ -112,15 +113,15 @@ fn answer_open(fd: i32, station: &[u8], buf: &mut [u8]) -> bool {
 pub(crate) fn answer_sheet(station: &[u8], buf: &mut [u8]) {
     let mut path = io::buffer();
     let end = os::arg(2, &mut path);
-    if !is_named(Which::Samples) {
+    if !is_named(Program::Check, Which::Samples) {
         return;
     }
-    let found = open_file(Which::Samples, &path[..end]);
+    let found = open_named(Program::Check, Which::Samples, &path[..end]);
     let Opened::At(fd) = found else {
         return;
     };
     if !answer_open(fd, station, buf) {
-        say_unread(Which::Samples, &path[..end]);
+        say_unread(Program::Check, Which::Samples, &path[..end]);
     }
     libc::close(fd);
 }

@@ -14,8 +14,8 @@ Inv-loop fd buf₀ watched check₀ bytes₀ turns₀ buf check bytes turns = le
 abbrev μ-loop : tie.MeasureT-loop
 μ-loop fd buf₀ watched check₀ bytes₀ turns₀ buf check bytes turns = turns
 
-isatty-requires : tie.Need-isatty-requires Inv-loop μ-loop
-isatty-requires c κs = search needs
+is-watched-requires : tie.Need-is-watched-requires Inv-loop μ-loop
+is-watched-requires c κs = search needs
 
 check-requires : tie.Need-check-requires Inv-loop μ-loop
 check-requires c κs = search needs
@@ -77,7 +77,7 @@ hear-spec =
     (tie.spec
     Inv-loop
     μ-loop
-    isatty-requires
+    is-watched-requires
     check-requires
     loop-holds
     sub-turns
