@@ -2,10 +2,11 @@
 """compare_runs.py REFERENCE GENERATE RUN SMALL SEED COUNT
 
 Runs the program RUN (target/bin/run_files, which `rt check run_files` builds) as a process on real files and compares what it prints
-byte for byte with the independent reference program: first cases with known answers, then COUNT generated runs and a third as many
-others (sheets of all sizes, up to some 65,536 bytes; stations, half of them damaged), and at last runs of 100,000 seconds. The known
-ones, every tenth of the generated ones, each small damaged sheet and some long runs go through SMALL too (target/bin/run_small: the
-same core, fed 7 bytes at a time and emptied by 256). RUN and SMALL may be commands of several words.
+byte for byte with what the independent reference program prints: first cases with known answers, then COUNT generated runs and a third
+as many others (sheets of all sizes, up to some 65,536 bytes; stations, half of them damaged), and at last runs of 100,000 seconds. The
+known ones, every tenth of the generated ones, each small damaged sheet and some long runs go through SMALL too (target/bin/run_small:
+the same core, fed 7 bytes at a time and emptied by 256). Most print into a pipe; every twentieth and the long ones into a file. RUN
+and SMALL may be commands of several words.
 
 Says how many cases there were, which refusals they met, how many rows and bytes were compared, and fails where a refusal or a kind of
 file was never met. The first difference ends the test with status 1, and its case is kept in build/compare-runs/difference.
@@ -25,10 +26,14 @@ BATCH = 250  # cases that the reference answers at once
 
 MOST_SECONDS, LAST_SECOND = 100_000, 316_224_000
 SMALL_SHEET = 4096  # bytes; damaged sheets below it all go through SMALL
+LONG_OUTPUT = 1_000_000  # bytes; output above it goes into a file
 NUMBERS = list(range(1, 9)) + list(range(11, 24))  # all that a run program can answer: 24 to 26 are of calls, and not of files
 
 HEADINGS = HEADING_LINE.encode()
 ONE_ROW = HEADINGS + b'0,40,10,0\n'
+ROW_HEADINGS = b't,load,shed,solar,charge,spill,give,diesel,unserved,on,sets,call,store\n'
+SET_HEADINGS = b'set,run,starts,stops,energy,fuel\n'
+NO_SECOND = ROW_HEADINGS + SET_HEADINGS
 
 Case = collections.namedtuple('Case', 'name station samples seconds')
 
@@ -41,17 +46,18 @@ def of_length(length, end):
 
 
 def known_cases():
-    """Cases on Station A, each with the beginning of what it has to print."""
+    """Cases on Station A, each with what it has to print: the numbers of a refusal, or the bytes."""
     with open(STATION_A, 'rb') as f:
         station = f.read()
     with open(os.path.join('examples', 'station-a', 'samples.csv'), 'rb') as f:
         samples = f.read()
     with open(os.path.join('examples', 'station-a', 'rows.csv'), 'rb') as f:
         rows = f.read()
-    no_rows = rows[:rows.index(b'\n') + 1] + b'set,run,starts,stops,energy,fuel\n1,0,0,0,0,0\n2,0,0,0,0,0\n'
+    no_rows = NO_SECOND + b'1,0,0,0,0,0\n2,0,0,0,0,0\n'
     sheets = [
         ('an empty sheet', b'', '16,1'), ('one LF', b'\n', '16,1'), ('one CR', b'\r', '16,1'), ('headings alone', HEADINGS, '22,0'),
-        ('headings without LF', HEADINGS[:-1], '22,0'), ('an empty row', HEADINGS + b'\n', '17,2'), ('an empty line', ONE_ROW + b'\n', '17,3'),
+        ('headings without LF', HEADINGS[:-1], '22,0'), ('an empty row', HEADINGS + b'\n', '17,2'),
+        ('an empty line', ONE_ROW + b'\n', '17,3'),
         ('a blank heading', b't,LoadP,,PvAvailP,ShedLoadP\n0,1,1,1\n', '12,1'), ('a CR at the end', ONE_ROW[:-1] + b'\r', '18,2'),
         ('50000.001 kW', HEADINGS + b'0,50000.001,1,1\n', '19,2'), ('a first time of 1', HEADINGS + b'1,1,1,1\n', '21,2'),
         ('a byte order mark', b'\xef\xbb\xbf' + ONE_ROW, '16,1'), ('NUL bytes', bytes(70000), '11,1'),
@@ -67,11 +73,9 @@ def known_cases():
         ('skipped rows', samples + b'3,1,1,1\n0,2,2,2\n'), ('rows past the seconds asked', samples + b'5,1,1,1\n316223999,2,2,2\n'),
         ('20,000 skipped rows', samples + b'3,1,1,1\n' * 20000),
     ]
-    asked = [
-        (b'0', no_rows), (b'000000000', no_rows), (b'000000005', rows), (b'5', rows), (b'', '18,0'), (b'0000000005', '18,0'), (b'5 ', '18,0'),
-        (b' 5', '18,0'), (b'+5', '18,0'), (b'-5', '18,0'), (b'5.0', '18,0'), (b'5\n', '18,0'), (b'\xff', '18,0'), (b'9' * 10, '18,0'),
-        (b'0' * 100000, '18,0'), (b'9' * 9, '23,0'), (b'316224001', '23,0'),
-    ]
+    asked = [(b'0', no_rows), (b'000000000', no_rows), (b'000000005', rows), (b'5', rows), (b'9' * 9, '23,0'), (b'316224001', '23,0')]
+    for text in [b'', b'0000000005', b'5 ', b' 5', b'+5', b'-5', b'5.0', b'5\n', b'\xff', b'9' * 10, b'0' * 100000]:
+        asked.append((text, '18,0'))
     cases = [(Case('known: ' + name, station, file, b'5'), number) for name, file, number in sheets]
     cases += [(Case('known: ' + name, station, file, b'5'), rows) for name, file in same]
     cases += [(Case('known: SECONDS %r' % seconds[:20], station, samples, seconds), answer) for seconds, answer in asked]
@@ -140,7 +144,8 @@ def long_cases(good):
     """Runs of 100,000 seconds: three stations with three sheets, and two generated stations; and whether SMALL runs them too."""
     with open(STATION_A, 'rb') as f:
         stations = [('Station A', f.read()), ('4 sets', four_sets()), ('8 sets', largest_station())]
-    sheets = [('a row a second', sheet(MOST_SECONDS)), ('a row an hour', days_sheet(MOST_SECONDS, 3600)), ('irregular rows', irregular_sheet(MOST_SECONDS))]
+    sheets = [('a row a second', sheet(MOST_SECONDS)), ('a row an hour', days_sheet(MOST_SECONDS, 3600)),
+              ('irregular rows', irregular_sheet(MOST_SECONDS))]
     seconds = b'%d' % MOST_SECONDS
     for at, (name, station) in enumerate(stations):
         for place, (kind, text) in enumerate(sheets):
@@ -162,23 +167,29 @@ def answered(reference, cases):
         yield from zip(some, map(from_hex, answers))
 
 
-def write(path, content):
-    with open(path, 'wb') as f:
+def put(path, content):
+    """Writes a file over what stands there, which is faster than to empty it first."""
+    file = os.open(path, os.O_WRONLY | os.O_CREAT, 0o666)
+    with open(file, 'wb') as f:
         f.write(content)
+        f.truncate()
 
 
-def printed_by(command, seconds):
-    """What a process prints for the two files that stand there, and how it ended: a status, or nothing where it does not end."""
-    with open(PRINTED, 'wb') as printed, open(SAID, 'wb') as said:
-        process = subprocess.Popen(command + [STATION, SAMPLES, seconds], stdin=subprocess.DEVNULL, stdout=printed, stderr=said, close_fds=False)
+def printed_by(command, case, to_file):
+    """What a process prints for the two files that stand there, into a pipe or a file, and its status, or None where it does not end."""
+    with open(SAID, 'r+b') as said, open(PRINTED, 'r+b') as printed:
+        for file in said, printed:
+            file.truncate()
+        process = subprocess.Popen(command + [STATION, SAMPLES, case.seconds], stdin=subprocess.DEVNULL, stderr=said,
+                                   stdout=printed if to_file else subprocess.PIPE, env={'LC_ALL': 'C'}, close_fds=False)
         try:
-            status = process.wait(timeout=LONGEST)
-        except subprocess.TimeoutExpired:
+            text, _ = process.communicate(timeout=LONGEST)
+        except subprocess.TimeoutExpired as late:
             process.kill()
-            process.wait()
-            status = None
-    with open(PRINTED, 'rb') as f:
-        return f.read(), status
+            process.communicate()
+            return late.stdout or b'', None
+        printed.seek(0)
+        return printed.read() if to_file else text, process.returncode
 
 
 def where(ours, theirs):
@@ -190,30 +201,33 @@ def where(ours, theirs):
     return '%d lines are printed and not %d; as far as both go they are the same' % (len(ours), len(theirs))
 
 
-def keep(case, command, wanted, why):
+def keep(case, command, printed, wanted, why):
     """Saves the case and ends the test."""
-    shutil.rmtree(DIFFERENCE, ignore_errors=True)
     os.makedirs(DIFFERENCE)
-    shutil.copy(PRINTED, DIFFERENCE)
     shutil.copy(SAID, DIFFERENCE)
-    for name, content in [('station', case.station), ('samples.csv', case.samples), ('seconds', case.seconds), ('wanted', wanted)]:
-        write(os.path.join(DIFFERENCE, name), content)
+    put(os.path.join(DIFFERENCE, 'station'), case.station)
+    put(os.path.join(DIFFERENCE, 'samples.csv'), case.samples)
+    put(os.path.join(DIFFERENCE, 'seconds'), case.seconds)
+    put(os.path.join(DIFFERENCE, 'printed'), printed)
+    put(os.path.join(DIFFERENCE, 'wanted'), wanted)
     with open(SAID, 'rb') as f:
         said = f.read(1000).decode(errors='replace').strip()
     fail('%s, by %s: %s\nstandard error: %s\nthe case is kept in %s: station, samples.csv, seconds, wanted, printed, said' % (
         case.name, ' '.join(command), why, said or '(nothing)', DIFFERENCE))
 
 
-def hold(command, case, wanted):
+def hold(command, case, wanted, to_file):
     """Ends the test where a process prints other bytes, fails or does not end."""
-    printed, status = printed_by(command, case.seconds)
+    printed, status = printed_by(command, case, to_file)
+    why = None
     if status is None:
-        keep(case, command, wanted, 'it has not ended after %d s' % LONGEST)
-    if status != 0:
-        how = signal.Signals(-status).name if status < 0 else 'status %d' % status
-        keep(case, command, wanted, 'it ended with %s' % how)
-    if printed != wanted:
-        keep(case, command, wanted, where(printed, wanted))
+        why = 'it has not ended after %d s' % LONGEST
+    elif status != 0:
+        why = 'it ended with %s' % (signal.Signals(-status).name if status < 0 else 'status %d' % status)
+    elif printed != wanted:
+        why = where(printed, wanted)
+    if why:
+        keep(case, command, printed, wanted, why)
     return len(printed)
 
 
@@ -229,11 +243,12 @@ def kinds(case, answer):
     yield from (name for name, holds in [
         ('empty sheet', not case.samples), ('CR LF', b'\r\n' in case.samples), ('no last LF', case.samples[-1:] not in (b'', b'\n')),
         ('lines of 511 to 514 bytes', lengths & {511, 512, 513, 514}), ('over 65,536 bytes', len(case.samples) > 65536),
-        ('no second', not number_of(answer) and answer.count(b'\n') == 2 + answer[answer.index(b'\nset,') + 1:].count(b'\n') - 1),
+        ('no second', answer.startswith(NO_SECOND)),
         ('over 1,000 seconds', answer.count(b'\n') > 1000), ('100,000 seconds', answer.count(b'\n') > MOST_SECONDS)] if holds)
 
 
-KINDS = ['empty sheet', 'CR LF', 'no last LF', 'lines of 511 to 514 bytes', 'over 65,536 bytes', 'no second', 'over 1,000 seconds', '100,000 seconds']
+KINDS = ['empty sheet', 'CR LF', 'no last LF', 'lines of 511 to 514 bytes', 'over 65,536 bytes', 'no second', 'over 1,000 seconds',
+         '100,000 seconds']
 
 
 class Tally:
@@ -245,14 +260,15 @@ class Tally:
         self.met, self.seen = collections.Counter(), collections.Counter()
 
     def hold(self, case, wanted, by_small):
-        write(STATION, case.station)
-        write(SAMPLES, case.samples)
+        put(STATION, case.station)
+        put(SAMPLES, case.samples)
         number = number_of(wanted)
+        to_file = self.cases % 20 == 0 or len(wanted) > LONG_OUTPUT
         self.cases += 1
-        self.bytes += hold(self.run, case, wanted)
+        self.bytes += hold(self.run, case, wanted, to_file)
         if by_small or (11 <= number <= 22 and len(case.samples) < SMALL_SHEET):
             self.through_small += 1
-            self.bytes += hold(self.small, case, wanted)
+            self.bytes += hold(self.small, case, wanted, to_file)
         self.met[number] += 1
         self.seen.update(kinds(case, wanted))
         self.rows += wanted[:wanted.find(b'\nset,') + 1].count(b'\n') - 1 if number == 0 else 0
@@ -267,8 +283,9 @@ class Tally:
             if self.seen[kind] == 0:
                 fail('no case with %s' % kind)
         refused = self.cases - self.met[0]
-        print('runs: %d cases, %d of them refused, and %d again by small chunks, print the reference\'s bytes: %d rows, %d bytes compared' % (
-            self.cases, refused, self.through_small, self.rows, self.bytes))
+        print('runs: %d cases, %d of them refused, and %d again by small chunks, print the reference\'s bytes' % (
+            self.cases, refused, self.through_small))
+        print('runs: %d rows, %d bytes compared' % (self.rows, self.bytes))
 
 
 def compare_all(reference, generate, seed, count, tally):
@@ -303,6 +320,8 @@ def main():
             fail('%s is not there; `rt check %s` builds it' % (program, os.path.basename(program)))
     shutil.rmtree(OUT, ignore_errors=True)
     os.makedirs(OUT)
+    put(SAID, b'')
+    put(PRINTED, b'')
     tally = Tally(run, small)
     compare_all(reference, generate, sys.argv[5], int(sys.argv[6]), tally)
     tally.show()
