@@ -187,7 +187,7 @@ def printed_by(command, case, to_file):
         except subprocess.TimeoutExpired as late:
             process.kill()
             process.communicate()
-            return late.stdout or b'', None
+            text, process.returncode = late.stdout or b'', None
         printed.seek(0)
         return printed.read() if to_file else text, process.returncode
 
