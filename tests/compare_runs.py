@@ -74,7 +74,8 @@ def known_cases():
         ('20,000 skipped rows', samples + b'3,1,1,1\n' * 20000),
     ]
     asked = [(b'0', no_rows), (b'000000000', no_rows), (b'000000005', rows), (b'5', rows), (b'9' * 9, '23,0'), (b'316224001', '23,0')]
-    for text in [b'', b'0000000005', b'5 ', b' 5', b'+5', b'-5', b'5.0', b'5\n', b'\xff', b'9' * 10, b'0' * 100000]:
+    for text in [b'', b'0000000005', b'5 ', b' 5', b'+5', b'-5', b'5.0', b'5\n', b'\xff', b'9' * 10, b'0' * 4095, b'0' * 4096, b'1' * 4097,
+                 b'0' * 100000]:
         asked.append((text, '18,0'))
     cases = [(Case('known: ' + name, station, file, b'5'), number) for name, file, number in sheets]
     cases += [(Case('known: ' + name, station, file, b'5'), rows) for name, file in same]
