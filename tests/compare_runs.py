@@ -38,54 +38,64 @@ NO_SECOND = ROW_HEADINGS + SET_HEADINGS
 Case = collections.namedtuple('Case', 'name station samples seconds')
 
 
-# ---- cases with known answers
+def read(path):
+    with open(path, 'rb') as f:
+        return f.read()
+
+
+# ---- cases with known answers, on Station A
 
 def of_length(length, end):
     """A good first row, then a line of some length, and its end."""
     return ONE_ROW + b'1' * length + end
 
 
-def known_cases():
-    """Cases on Station A, each with what it has to print: the numbers of a refusal, or the bytes."""
-    with open(STATION_A, 'rb') as f:
-        station = f.read()
-    with open(os.path.join('examples', 'station-a', 'samples.csv'), 'rb') as f:
-        samples = f.read()
-    with open(os.path.join('examples', 'station-a', 'rows.csv'), 'rb') as f:
-        rows = f.read()
+REFUSED_SHEETS = [
+    ('an empty sheet', b'', '16,1'), ('one LF', b'\n', '16,1'), ('one CR', b'\r', '16,1'), ('headings alone', HEADINGS, '22,0'),
+    ('headings without LF', HEADINGS[:-1], '22,0'), ('an empty row', HEADINGS + b'\n', '17,2'), ('an empty line', ONE_ROW + b'\n', '17,3'),
+    ('a blank heading', b't,LoadP,,PvAvailP,ShedLoadP\n0,1,1,1\n', '12,1'), ('a CR at the end', ONE_ROW[:-1] + b'\r', '18,2'),
+    ('50000.001 kW', HEADINGS + b'0,50000.001,1,1\n', '19,2'), ('a first time of 1', HEADINGS + b'1,1,1,1\n', '21,2'),
+    ('a byte order mark', b'\xef\xbb\xbf' + ONE_ROW, '16,1'), ('NUL bytes', bytes(70000), '11,1'),
+    ('511 bytes', of_length(511, b'\n'), '17,3'), ('512 bytes', of_length(512, b'\n'), '17,3'),
+    ('513 bytes', of_length(513, b'\n'), '11,3'), ('514 bytes', of_length(514, b'\n'), '11,3'),
+    ('511 bytes and CR', of_length(511, b'\r\n'), '17,3'), ('512 bytes and CR', of_length(512, b'\r\n'), '11,3'),
+    ('512 bytes at the end', of_length(512, b''), '17,3'), ('513 bytes at the end', of_length(513, b''), '11,3'),
+    ('headings of 512 bytes', b't' * 512 + b'\n', '16,1'), ('headings of 513 bytes', b't' * 513 + b'\n', '11,1'),
+    ('a fault far into the sheet', ONE_ROW + b'0,1,1,1\n' * 20000 + b'1,1,1\n', '17,20003'),
+]
+MALFORMED_SECONDS = [b'', b'0000000005', b'5 ', b' 5', b'+5', b'-5', b'5.0', b'5\n', b'\xff', b'9' * 10, b'0' * 4095, b'0' * 4096,
+                     b'1' * 4097, b'0' * 100000]
+
+
+def same_sheets(samples):
+    """Other sheets that come to the same rows for the seconds asked."""
+    return [('Station A', samples), ('without a last LF', samples[:-1]), ('CR LF', samples.replace(b'\n', b'\r\n')),
+            ('skipped rows', samples + b'3,1,1,1\n0,2,2,2\n'), ('rows past the seconds asked', samples + b'5,1,1,1\n316223999,2,2,2\n'),
+            ('20,000 skipped rows', samples + b'3,1,1,1\n' * 20000)]
+
+
+def seconds_asked(rows):
+    """SECONDS, each with what it has to print."""
     no_rows = NO_SECOND + b'1,0,0,0,0,0\n2,0,0,0,0,0\n'
-    sheets = [
-        ('an empty sheet', b'', '16,1'), ('one LF', b'\n', '16,1'), ('one CR', b'\r', '16,1'), ('headings alone', HEADINGS, '22,0'),
-        ('headings without LF', HEADINGS[:-1], '22,0'), ('an empty row', HEADINGS + b'\n', '17,2'),
-        ('an empty line', ONE_ROW + b'\n', '17,3'),
-        ('a blank heading', b't,LoadP,,PvAvailP,ShedLoadP\n0,1,1,1\n', '12,1'), ('a CR at the end', ONE_ROW[:-1] + b'\r', '18,2'),
-        ('50000.001 kW', HEADINGS + b'0,50000.001,1,1\n', '19,2'), ('a first time of 1', HEADINGS + b'1,1,1,1\n', '21,2'),
-        ('a byte order mark', b'\xef\xbb\xbf' + ONE_ROW, '16,1'), ('NUL bytes', bytes(70000), '11,1'),
-        ('511 bytes', of_length(511, b'\n'), '17,3'), ('512 bytes', of_length(512, b'\n'), '17,3'),
-        ('513 bytes', of_length(513, b'\n'), '11,3'), ('514 bytes', of_length(514, b'\n'), '11,3'),
-        ('511 bytes and CR', of_length(511, b'\r\n'), '17,3'), ('512 bytes and CR', of_length(512, b'\r\n'), '11,3'),
-        ('512 bytes at the end', of_length(512, b''), '17,3'), ('513 bytes at the end', of_length(513, b''), '11,3'),
-        ('headings of 512 bytes', b't' * 512 + b'\n', '16,1'), ('headings of 513 bytes', b't' * 513 + b'\n', '11,1'),
-        ('a fault far into the sheet', ONE_ROW + b'0,1,1,1\n' * 20000 + b'1,1,1\n', '17,20003'),
-    ]
-    same = [
-        ('Station A', samples), ('without a last LF', samples[:-1]), ('CR LF', samples.replace(b'\n', b'\r\n')),
-        ('skipped rows', samples + b'3,1,1,1\n0,2,2,2\n'), ('rows past the seconds asked', samples + b'5,1,1,1\n316223999,2,2,2\n'),
-        ('20,000 skipped rows', samples + b'3,1,1,1\n' * 20000),
-    ]
-    asked = [(b'0', no_rows), (b'000000000', no_rows), (b'000000005', rows), (b'5', rows), (b'9' * 9, '23,0'), (b'316224001', '23,0')]
-    for text in [b'', b'0000000005', b'5 ', b' 5', b'+5', b'-5', b'5.0', b'5\n', b'\xff', b'9' * 10, b'0' * 4095, b'0' * 4096, b'1' * 4097,
-                 b'0' * 100000]:
-        asked.append((text, '18,0'))
-    cases = [(Case('known: ' + name, station, file, b'5'), number) for name, file, number in sheets]
-    cases += [(Case('known: ' + name, station, file, b'5'), rows) for name, file in same]
-    cases += [(Case('known: SECONDS %r' % seconds[:20], station, samples, seconds), answer) for seconds, answer in asked]
-    # The station comes before the sheet, and both before the seconds asked.
-    cases += [(Case('known: an empty station', b'', b'', b''), '1,0'), (Case('known: a sheet and SECONDS', station, b'', b''), '16,1'),
-              (Case('known: 164 bytes', station[:164], samples, b'5'), '1,0'), (Case('known: 677 bytes', bytes(677), samples, b'5'), '1,0'),
-              (Case('known: 100,000 bytes', station + bytes(100000), samples, b'5'), '1,0'),
-              (Case('known: a byte too many', station + b'\1', samples, b'5'), '3,0'),
-              (Case('known: a byte too few', station[:-1], samples, b'5'), '3,0')]
+    accepted = [(b'0', no_rows), (b'000000000', no_rows), (b'000000005', rows), (b'5', rows)]
+    return accepted + [(b'9' * 9, '23,0'), (b'316224001', '23,0')] + [(text, '18,0') for text in MALFORMED_SECONDS]
+
+
+def refused_first(station, samples):
+    """Refused stations; and cases with several faults: the station comes before the sheet, and both before the seconds asked."""
+    return [('an empty station', b'', b'', b'', '1,0'), ('a sheet and SECONDS', station, b'', b'', '16,1'),
+            ('164 bytes', station[:164], samples, b'5', '1,0'), ('677 bytes', bytes(677), samples, b'5', '1,0'),
+            ('100,000 bytes', station + bytes(100000), samples, b'5', '1,0'),
+            ('a byte too many', station + b'\1', samples, b'5', '3,0'), ('a byte too few', station[:-1], samples, b'5', '3,0')]
+
+
+def known_cases():
+    """Each case with the bytes that it has to print."""
+    station, samples, rows = (read(os.path.join('examples', 'station-a', name)) for name in ['station', 'samples.csv', 'rows.csv'])
+    cases = [(Case('known: ' + name, station, file, b'5'), number) for name, file, number in REFUSED_SHEETS]
+    cases += [(Case('known: ' + name, station, file, b'5'), rows) for name, file in same_sheets(samples)]
+    cases += [(Case('known: SECONDS %r' % seconds[:20], station, samples, seconds), answer) for seconds, answer in seconds_asked(rows)]
+    cases += [(Case('known: ' + name, *files), number) for name, *files, number in refused_first(station, samples)]
     return [(case, b'refused,%s\n' % answer.encode() if isinstance(answer, str) else answer) for case, answer in cases]
 
 
@@ -143,8 +153,7 @@ def irregular_sheet(seconds):
 
 def long_cases(good):
     """Runs of 100,000 seconds: three stations with three sheets, and two generated stations; and whether SMALL runs them too."""
-    with open(STATION_A, 'rb') as f:
-        stations = [('Station A', f.read()), ('4 sets', four_sets()), ('8 sets', largest_station())]
+    stations = [('Station A', read(STATION_A)), ('4 sets', four_sets()), ('8 sets', largest_station())]
     sheets = [('a row a second', sheet(MOST_SECONDS)), ('a row an hour', days_sheet(MOST_SECONDS, 3600)),
               ('irregular rows', irregular_sheet(MOST_SECONDS))]
     seconds = b'%d' % MOST_SECONDS
@@ -211,8 +220,7 @@ def keep(case, command, printed, wanted, why):
     put(os.path.join(DIFFERENCE, 'seconds'), case.seconds)
     put(os.path.join(DIFFERENCE, 'printed'), printed)
     put(os.path.join(DIFFERENCE, 'wanted'), wanted)
-    with open(SAID, 'rb') as f:
-        said = f.read(1000).decode(errors='replace').strip()
+    said = read(SAID)[:1000].decode(errors='replace').strip()
     fail('%s, by %s: %s\nstandard error: %s\nthe case is kept in %s: station, samples.csv, seconds, wanted, printed, said' % (
         case.name, ' '.join(command), why, said or '(nothing)', DIFFERENCE))
 
