@@ -1,6 +1,6 @@
 /*
- * measure RESULT PROGRAM ARGUMENT..: runs a program and writes `SECONDS KB` to the file RESULT: the time that passed, and the peak of
- * its resident memory.
+ * measure RESULT PROGRAM ARGUMENT..: runs a program and writes `SECONDS KB PROCESSOR` to the file RESULT: the time that passed, the peak
+ * of its resident memory, and the processor time that it took, its own and the system's, in seconds.
  *
  * In C, because the memory of what starts a program counts as the program's own until it is replaced by it: started by Python, a
  * program that needs 500 KB is measured at 10 MB.
@@ -20,6 +20,11 @@ static double now(void)
     struct timespec time;
     clock_gettime(CLOCK_MONOTONIC, &time);
     return (double)time.tv_sec + (double)time.tv_nsec / 1e9;
+}
+
+static double in_seconds(struct timeval time)
+{
+    return (double)time.tv_sec + (double)time.tv_usec / 1e6;
 }
 
 int main(int count, char **arguments)
@@ -42,8 +47,9 @@ int main(int count, char **arguments)
         return NOT_RUN;
     }
     double seconds = now() - since;
+    double processor = in_seconds(used.ru_utime) + in_seconds(used.ru_stime);
     FILE *result = fopen(arguments[1], "w");
-    if (result == NULL || fprintf(result, "%.3f %ld\n", seconds, used.ru_maxrss) < 0 || fclose(result) != 0) {
+    if (result == NULL || fprintf(result, "%.3f %ld %.6f\n", seconds, used.ru_maxrss, processor) < 0 || fclose(result) != 0) {
         perror(arguments[1]);
         return NOT_RUN;
     }
