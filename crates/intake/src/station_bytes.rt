@@ -60,7 +60,7 @@ pub fn more_station(file: StationBytes, chunk: &[u8]) -> StationBytes
 }
 
 // The file has ended: its record, or its refusal.
-pub(crate) fn station_of(file: StationBytes) -> Reading
+pub fn station_of(file: StationBytes) -> Reading
     ensures { λ r. ⌜ (verdictOf (r .verdict) ≡ judged (stationWith file [])) × (r .station ≡ valueOr noStation (stationWith file [])) ⌝ }
 {
     let bytes = file.bytes;

@@ -6,7 +6,7 @@ ghost use mathlib.Core.List.{List, []};
 ghost use lib.ListN.{length};
 ghost use Rattle.rules.specs.SampleFile.{sampleFile, beforeAll};
 ghost use Rattle.samples.specs.ToCome.{placed};
-ghost use Rattle.samples.specs.Held.{sourceRows, sourceRefused, lastComesIn, comesIn, aheadAtEnd, readerAt, ReachedRight, FilledRight, EndedRight};
+ghost use Rattle.samples.specs.Held.{sourceRows, sourceEnded, sourceRefused, lastComesIn, comesIn, aheadAtEnd, readerAt, ReachedRight, FilledRight, EndedRight};
 use crate::check::line_refused;
 use crate::reader::Ending;
 use crate::reader::SampleReader;
@@ -285,6 +285,21 @@ fn fill_seconds(
         source: InputSource { reader, now, ahead },
         next,
         seconds: i,
+    }
+}
+
+// Whether the file has ended, so that no further byte changes what is to come.
+pub fn has_ended(source: InputSource) -> bool
+    ensures { λ r. ⌜ r ≡ sourceEnded source ⌝ }
+{
+    let ahead = source.ahead;
+    match ahead {
+        Ahead::Unread => false,
+        Ahead::Next(_) => false,
+        Ahead::LastTwo(_, _) => true,
+        Ahead::Last(_) => true,
+        Ahead::Ended => true,
+        Ahead::Refused(_) => true,
     }
 }
 

@@ -1,0 +1,75 @@
+-- A line that is put into the tail of a lent buffer. Assumes nothing.
+use Prim.Native.Nat.{ℕ, _+_, _-_, _≤_, _<_}
+use mathlib.Core.Path.{_≡_, refl, sym, ap, _∙_}
+use mathlib.Core.Bool.{Bool, true, false}
+use mathlib.Core.List.{List, [], _∷_, _++_}
+use native.Mathlib.Omega.{arith}
+use lib.Dec.{leb}
+use lib.ListN.{length, take, drop, length-append, length-drop, take-append-drop}
+use Rattle.rules.specs.declared.answers.Outcome.{Outcome}
+use Rattle.rules.specs.declared.answers.Refusal.{Refusal}
+use Rattle.rules.specs.Answers.{Answer, accepted, refused, need, _>>_, refusalOf, outcomeOf}
+use Rattle.dispatch.proofs.Going.{rest-is, back-is}
+use Rattle.rows.specs.Written.{TextPut, textWritten, lengthOf, bufferWith}
+use Rattle.simulation.specs.declared.state.Turn.{Turn}
+use Rattle.simulation.specs.declared.state.Wants.{Wants}
+use Rattle.simulation.specs.Text.{lineOf}
+use Rattle.simulation.specs.Turns.{LineBy, LineMoved, withLine, waitingFor, putAt}
+
+-- ---- what an answer says of the buffer's room
+
+pub record Put (text lent : List ℕ) (size : ℕ) (left : List ℕ) : Type 0 where
+  pub roomy : leb 256 (length lent) ≡ true
+  pub size-is : size ≡ length text
+  pub left-is : left ≡ text ++ drop (length text) lent
+
+put-by : (text lent : List ℕ) (size : ℕ) (left : List ℕ) (b : Bool) → leb 256 (length lent) ≡ b → accepted size ≡ lengthOf (need b 26 0 >> accepted text) → left ≡ bufferWith lent (need b 26 0 >> accepted text) → Put text lent size left
+put-by text lent size left true e a l = record { roomy = e; size-is = (cc); left-is = l }
+put-by text lent size left false e a l = absurd (let z : _≡_ {A = ℕ} 0 1 = cc in omega arith)
+
+pub put-means : (text lent : List ℕ) (answer : Outcome) (size : ℕ) (left : List ℕ) → answer ≡ Outcome.Row size → TextPut text lent answer left → Put text lent size left
+unfolding textWritten
+put-means text lent answer size left is p = put-by text lent size left (leb 256 (length lent)) refl (rw is at (p .answers)) (p .leaves)
+
+none-by : (text lent : List ℕ) (why : Refusal) (left : List ℕ) (b : Bool) → leb 256 (length lent) ≡ b → refusalOf why ≡ lengthOf (need b 26 0 >> accepted text) → left ≡ bufferWith lent (need b 26 0 >> accepted text) → (leb 256 (length lent) ≡ false) × (left ≡ lent)
+none-by text lent why left true e a l = absurd (let z : _≡_ {A = ℕ} 0 1 = cc in omega arith)
+none-by text lent why left false e a l = (e, l)
+
+pub none-means : (text lent : List ℕ) (answer : Outcome) (why : Refusal) (left : List ℕ) → answer ≡ Outcome.Refused why → TextPut text lent answer left → (leb 256 (length lent) ≡ false) × (left ≡ lent)
+unfolding textWritten
+none-means text lent answer why left is p = none-by text lent why left (leb 256 (length lent)) refl (rw is at (p .answers)) (p .leaves)
+
+-- a text that a part of a buffer took fits into it
+pub put-fits : (text lent left : List ℕ) → left ≡ text ++ drop (length text) lent → length left ≡ length lent → length text ≤ length lent
+put-fits text lent left is same = omega (arith, ap length is, length-append text (drop (length text) lent), length-drop (length text) lent)
+
+-- ---- the turn
+
+module _ (t : Turn) (out left : List ℕ) where
+  abbrev line : List ℕ
+  line = lineOf (t .simulation .phase) (t .simulation .run .sets)
+
+  abbrev lent : List ℕ
+  lent = drop (t .written) out
+
+  abbrev back : List ℕ
+  back = take (t .written) out ++ (left ++ drop (length out - t .written) lent)
+
+  module _ (answer : Outcome) (p : TextPut line lent answer left) (same : length left ≡ length lent) where
+    pub line-room : (size : ℕ) → answer ≡ Outcome.Row size → t .written ≤ length out → t .written + size ≤ length out
+    line-room size is h =
+        let w = put-means line lent answer size left is p in
+        omega (arith, w .size-is, put-fits line lent left (w .left-is) same, length-drop (t .written) out)
+
+    pub line-moves : (size : ℕ) → answer ≡ Outcome.Row size → t .written ≤ length out
+        → LineMoved t out (record { simulation = withLine t .simulation; next = t .next; written = t .written + size; wants = Wants.Further }) back
+    line-moves size is h =
+        let w = put-means line lent answer size left is p in
+        let e : leb 256 (length out - t .written) ≡ true = ap (leb 256) (sym (length-drop (t .written) out)) ∙ w .roomy in
+        rw e (ap (λ (n : ℕ). record { simulation = withLine t .simulation; next = t .next; written = t .written + n; wants = Wants.Further }) (w .size-is), back-is out left (t .written) ∙ ap (λ (l : List ℕ). take (t .written) out ++ l) (w .left-is), rw (w .size-is) at (line-room size is h))
+
+    pub line-waits : (why : Refusal) → answer ≡ Outcome.Refused why → LineMoved t out (waitingFor t Wants.Room) back
+    line-waits why is =
+        let w = none-means line lent answer why left is p in
+        let e : leb 256 (length out - t .written) ≡ false = ap (leb 256) (sym (length-drop (t .written) out)) ∙ w .0 in
+        rw e (refl, back-is out left (t .written) ∙ ap (λ (l : List ℕ). take (t .written) out ++ l) (w .1) ∙ take-append-drop (t .written) out)

@@ -1,0 +1,96 @@
+-- A turn leaves what was handed over and what is still to come as it was: a phase's line, the seconds, the waits. Assumes nothing.
+use Prim.Native.Nat.{ℕ, zero, suc, _+_, _-_, _*_, _≤_, _<_, min}
+use mathlib.Core.Path.{_≡_, refl, sym, ap, _∙_}
+use mathlib.Core.Bool.{Bool, true, false}
+use mathlib.Core.List.{List, [], _∷_, _++_, append-nil, append-assoc}
+use native.Mathlib.Omega.{arith}
+use lib.ListN.{length, take, drop, length-append, length-take, length-drop, take-append-drop}
+use lib.Seq.{take-at, drop-at, drop-drop}
+use Rattle.rules.specs.declared.station.Station.{Station}
+use Rattle.rules.specs.declared.run.Inputs.{Inputs}
+use Rattle.rules.specs.declared.run.Run.{Run}
+use Rattle.rules.specs.Row.{rowText}
+use Rattle.rules.specs.Second.{step}
+use Rattle.simulation.specs.declared.state.Phase.{Phase}
+use Rattle.simulation.specs.declared.state.Simulation.{Simulation}
+use Rattle.simulation.specs.declared.state.Turn.{Turn}
+use Rattle.simulation.specs.declared.state.Wants.{Wants}
+use Rattle.simulation.specs.Rows.{rowTexts, runAfter, setTexts, rowsWith}
+use Rattle.simulation.specs.Text.{textOf, toPrint, withPhase}
+use Rattle.simulation.specs.Turns.{Coming, Comes, ComesOn, rank, weight, finished, Ended, Moved, waitingFor, putAt}
+
+-- ---- a text in a buffer
+
+pub front-length : (l : List ℕ) (k : ℕ) → k ≤ length l → length (take k l) ≡ k
+front-length l k h = length-take k l ∙ (let m : min k (length l) ≡ k = omega arith in m)
+
+module _ (out text : List ℕ) (at : ℕ) (h : at + length text ≤ length out) where
+  front-size : length (take at out ++ text) ≡ at + length text
+  front-size = length-append (take at out) text ∙ ap (λ (n : ℕ). n + length text) (front-length out at (omega arith))
+
+  regroup : putAt out at text ≡ (take at out ++ text) ++ drop (length text) (drop at out)
+  regroup = sym (append-assoc (take at out) text (drop (length text) (drop at out)))
+
+  pub put-front : take (at + length text) (putAt out at text) ≡ take at out ++ text
+  put-front = rw regroup (take-at (take at out ++ text) (drop (length text) (drop at out)) (at + length text) front-size)
+
+  pub put-rest : drop (at + length text) (putAt out at text) ≡ drop (at + length text) out
+  put-rest =
+      rw regroup (drop-at (take at out ++ text) (drop (length text) (drop at out)) (at + length text) front-size)
+      ∙ drop-drop (length text) at out
+
+  pub put-size : length (putAt out at text) ≡ length out
+  put-size =
+      ap length regroup ∙ length-append (take at out ++ text) (drop (length text) (drop at out))
+      ∙ (let a = length-drop (length text) (drop at out) in let b = length-drop at out in let z : length (take at out ++ text) + length (drop (length text) (drop at out)) ≡ length out = omega (arith, front-size) in z)
+
+-- ---- rows of some seconds and then of others
+
+pub rows-split : (st : Station) (xs ys : List Inputs) (r : Run) → rowTexts st (xs ++ ys) r ≡ rowTexts st xs r ++ rowTexts st ys (runAfter st xs r)
+unfolding rowTexts runAfter
+rows-split st [] ys r = refl
+rows-split st (x ∷ xs) ys r =
+    let s = step st r x in
+    ap (λ (l : List ℕ). rowText (s .row) ++ l) (rows-split st xs ys (s .run)) ∙ sym (append-assoc (rowText (s .row)) (rowTexts st xs (s .run)) (rowTexts st ys (runAfter st xs (s .run))))
+
+pub run-split : (st : Station) (xs ys : List Inputs) (r : Run) → runAfter st (xs ++ ys) r ≡ runAfter st ys (runAfter st xs r)
+unfolding runAfter
+run-split st [] ys r = refl
+run-split st (x ∷ xs) ys r = run-split st xs ys (step st r x .run)
+
+pub with-split : (st : Station) (xs ys : List Inputs) (r : Run) → rowsWith st (xs ++ ys) r ≡ rowTexts st xs r ++ rowsWith st ys (runAfter st xs r)
+unfolding rowsWith
+with-split st xs ys r =
+    rw (rows-split st xs ys r, run-split st xs ys r) (append-assoc (rowTexts st xs r) (rowTexts st ys (runAfter st xs r)) (setTexts st (runAfter st ys (runAfter st xs r))))
+
+pub with-none : (st : Station) (r : Run) → rowsWith st [] r ≡ setTexts st r
+unfolding rowsWith rowTexts runAfter
+with-none st r = refl
+
+-- ---- turns that hand nothing over
+
+-- the run is as it was, but in its phase and source; `next` may have moved
+module _ (t : Turn) (chunk : List ℕ) (ended : Bool) (out : List ℕ) (s : Simulation) (next : ℕ) (wants : Wants)
+  (left-same : s .left ≡ t .simulation .left)
+  (text-same : (xs : List Inputs) → length xs ≡ s .left → toPrint (t .simulation) xs ≡ toPrint s xs)
+  (comes : (rest : List ℕ) → (ended ≡ true → rest ≡ []) → (xs : List Inputs) → Comes (t .simulation) (drop (t .next) chunk ++ rest) xs → Comes s (drop next chunk ++ rest) xs)
+  (within : next ≤ length chunk) (onward : t .next ≤ next) (fits : t .written ≤ length out) (less : weight s ≤ weight (t .simulation)) where
+  abbrev after : Turn
+  after = record { simulation = s; next = next; written = t .written; wants = wants }
+
+  pub quiet : Ended wants t chunk ended out after → Moved t chunk ended out after out
+  quiet e =
+      record {
+        worked = [];
+        left-is = omega (arith, left-same);
+        text = λ xs l. ap (λ (x : List ℕ). take (t .written) out ++ x) (text-same xs l);
+        inputs = λ rest h xs c. record { others = xs; are = refl; come = comes rest h xs c };
+        within = within;
+        onward = onward;
+        grows = omega arith;
+        fits = fits;
+        size = refl;
+        kept = refl;
+        less = less;
+        wants = e;
+      }
