@@ -92,7 +92,7 @@ module _ (s : Simulation) (chunk : List ℕ) (at : ℕ) (ended : Bool) (out₀ :
     kept-on =
         let up : t .written + (r .written - t .written) ≡ r .written = omega (arith, m .grows) in
         let later : (l : List ℕ) → drop (r .written) l ≡ drop (r .written - t .written) (drop (t .written) l) =
-            λ l. ap (λ (n : ℕ). drop n l) (sym up) ∙ sym (drop-drop (r .written - t .written) (t .written) l) in
+        λ l. ap (λ (n : ℕ). drop n l) (sym up) ∙ sym (drop-drop (r .written - t .written) (t .written) l) in
         m .kept ∙ later out ∙ ap (drop (r .written - t .written)) (g .kept) ∙ sym (later out₀)
 
     stops : (w : Wants) → Ended w t chunk ended out r → StoppedYet w r

@@ -10,3 +10,4 @@ pub mod CallLaws
 pub mod BeginLaws
 pub mod Printed
 pub mod Program
+pub mod Function

@@ -42,7 +42,7 @@ module _ (t : Turn) (chunk : List ℕ) (ended : Bool) (out : List ℕ) (at-in : 
   room-turn h = quiet t chunk ended out s (t .next) Wants.Room refl (λ xs l. refl) (λ rest h zs k. k) at-in (omega arith) out-in (omega arith) (omega arith, refl)
 
   module _ (text-is : (xs : List Inputs) → toPrint s xs ≡ line ++ toPrint next xs) (comes : (rest : List ℕ) (xs : List Inputs) → Comes s rest xs → Comes next rest xs)
-    (lighter : rank (phaseAfter (s .phase)) < rank (s .phase)) where
+      (lighter : rank (phaseAfter (s .phase)) < rank (s .phase)) where
     with-line : t .written + length line ≤ length out → Moved t chunk ended out (withLine t) (putAt out (t .written) line)
     with-line fits =
         let w : weight next < weight s = omega (arith, lighter) in
@@ -69,7 +69,6 @@ module _ (t : Turn) (chunk : List ℕ) (ended : Bool) (out : List ℕ) (at-in : 
     line-turned r out′ m = by-room (leb 256 (length out - t .written)) refl r out′ m
 
   -- ---- by the phase
-
 
   pub refusal-turn : (refusal : Refusal) → s .phase ≡ Phase.Refusal refusal → (r : Turn) (out′ : List ℕ) → LineMoved t out r out′ → Moved t chunk ended out r out′
   unfolding textOf lineOf
@@ -134,6 +133,7 @@ module _ (t : Turn) (chunk : List ℕ) (ended : Bool) (out : List ℕ) (at-in : 
       where
         sets : List SetState
         sets = s .run .sets
+
         one-more : setLines place (drop place (take (s .station .setcount) (s .run .sets)))
             ≡ (if ltb place 8 then setLine (suc place) (getD (s .run .sets) place (fresh Off)) else []) ++ setLines (min (suc place) 8) (drop (min (suc place) 8) (take (s .station .setcount) (s .run .sets)))
         one-more =

@@ -143,9 +143,9 @@ call-some s chunk at ended lent r left c out last h =
       worked = c .worked ++ h .worked;
       left-is = (let z = length-append (c .worked) (h .worked) in omega (arith, z, c .left-is, h .left-is));
       text = λ xs l.
-        ap (toPrint s) (append-assoc (c .worked) (h .worked) xs)
-        ∙ c .text (h .worked ++ xs) (length-append (h .worked) xs ∙ (let z : length (h .worked) + length xs ≡ r .simulation .left = omega (arith, h .left-is, l) in z))
-        ∙ ap (λ (x : List ℕ). take (r .written) left ++ x) (h .text xs l) ∙ sym (append-assoc (take (r .written) left) out (toPrint last xs));
+          ap (toPrint s) (append-assoc (c .worked) (h .worked) xs)
+          ∙ c .text (h .worked ++ xs) (length-append (h .worked) xs ∙ (let z : length (h .worked) + length xs ≡ r .simulation .left = omega (arith, h .left-is, l) in z))
+          ∙ ap (λ (x : List ℕ). take (r .written) left ++ x) (h .text xs l) ∙ sym (append-assoc (take (r .written) left) out (toPrint last xs));
     }
 
 no-calls : (s : Simulation) → Some s [] s
@@ -178,6 +178,7 @@ some-inputs {s} {last} calls =
     dark : ℕ → List Inputs
     dark zero = []
     dark (suc n) = record { load = 0; solar = 0; sheddable = 0 } ∷ dark n
+
     dark-length : (n : ℕ) → length (dark n) ≡ n
     dark-length zero = refl
     dark-length (suc n) = ap suc (dark-length n)

@@ -47,11 +47,11 @@ weighs (accepted u) left k n some h = omega (arith, some refl)
 weighs (refused m p) left k n some h = omega arith
 
 module _ (t : Turn) (chunk : List ℕ) (ended : Bool) (out : List ℕ) (phase-is : t .simulation .phase ≡ Phase.Seconds) (at-in : t .next ≤ length chunk)
-  (loads₀ solars₀ sheddables₀ loads solars sheddables : List ℕ) (f : Filled)
-  (fr : FilledRight (t .simulation .source) (t .simulation .run .done) chunk (t .next) loads₀ solars₀ sheddables₀ f loads solars sheddables)
-  (want-left : placesOf loads₀ solars₀ sheddables₀ ≤ t .simulation .left)
-  (want-room : 153 * placesOf loads₀ solars₀ sheddables₀ + 103 ≤ length out - t .written)
-  (some : 1 ≤ f .seconds) where
+    (loads₀ solars₀ sheddables₀ loads solars sheddables : List ℕ) (f : Filled)
+    (fr : FilledRight (t .simulation .source) (t .simulation .run .done) chunk (t .next) loads₀ solars₀ sheddables₀ f loads solars sheddables)
+    (want-left : placesOf loads₀ solars₀ sheddables₀ ≤ t .simulation .left)
+    (want-room : 153 * placesOf loads₀ solars₀ sheddables₀ + 103 ≤ length out - t .written)
+    (some : 1 ≤ f .seconds) where
   abbrev s : Simulation
   s = t .simulation
 
@@ -85,8 +85,8 @@ module _ (t : Turn) (chunk : List ℕ) (ended : Bool) (out : List ℕ) (phase-is
       → take (t .written) out ++ toPrint s (sm .worked ++ ys) ≡ take (t .written + length (c .text)) (putAt out (t .written) (c .text)) ++ textOf (phaseFor (c .ended)) (s .station) (c .run) ys
   text-kept fits ys =
       let to-come : toPrint s (sm .worked ++ ys) ≡ c .text ++ rowsWith (s .station) ys (c .run) =
-          seconds-text s (sm .worked ++ ys) phase-is ∙ with-split (s .station) (sm .worked) ys (s .run)
-          ∙ rw (sm .text-is, sm .run-is) in
+      seconds-text s (sm .worked ++ ys) phase-is ∙ with-split (s .station) (sm .worked) ys (s .run)
+      ∙ rw (sm .text-is, sm .run-is) in
       ap (λ (l : List ℕ). take (t .written) out ++ l) to-come
       ∙ sym (append-assoc (take (t .written) out) (c .text) (rowsWith (s .station) ys (c .run)))
       ∙ rw (put-front out (c .text) (t .written) fits, after-text (c .ended) (s .station) (c .run) ys)
@@ -151,8 +151,8 @@ module _ (t : Turn) (chunk : List ℕ) (ended : Bool) (out : List ℕ) (phase-is
   moved : t .written + length (c .text) ≤ length out → Moved t chunk ended out (withSeconds t (f .source) (f .next) c) (putAt out (t .written) (c .text))
   moved fits =
       let w : weight after < weight s =
-          let z = weighs (c .ended) (s .left) (c .seconds) (unended (sourceEnded (f .source))) worked-some few in
-          let e = ap rank phase-is in let u = ap unended (fr .ended) in omega (arith, z, e, u) in
+      let z = weighs (c .ended) (s .left) (c .seconds) (unended (sourceEnded (f .source))) worked-some few in
+      let e = ap rank phase-is in let u = ap unended (fr .ended) in omega (arith, z, e, u) in
       record {
         worked = sm .worked;
         left-is = omega (arith, sm .seconds-is, few);
@@ -179,9 +179,9 @@ none-told k d n loads solars sheddables now rows e =
     ap (λ (j : ℕ). inputsIn j loads solars sheddables ++ heldFrom now rows (d + k) n) e ∙ ap (λ (j : ℕ). heldFrom now rows j n) (let z : d + k ≡ d = omega (arith, e) in z)
 
 module _ (t : Turn) (chunk : List ℕ) (ended : Bool) (out : List ℕ) (phase-is : t .simulation .phase ≡ Phase.Seconds) (at-in : t .next ≤ length chunk) (out-in : t .written ≤ length out)
-  (loads₀ solars₀ sheddables₀ loads solars sheddables : List ℕ) (f : Filled)
-  (fr : FilledRight (t .simulation .source) (t .simulation .run .done) chunk (t .next) loads₀ solars₀ sheddables₀ f loads solars sheddables)
-  (places : 1 ≤ placesOf loads₀ solars₀ sheddables₀) (no-second : f .seconds ≡ 0) where
+    (loads₀ solars₀ sheddables₀ loads solars sheddables : List ℕ) (f : Filled)
+    (fr : FilledRight (t .simulation .source) (t .simulation .run .done) chunk (t .next) loads₀ solars₀ sheddables₀ f loads solars sheddables)
+    (places : 1 ≤ placesOf loads₀ solars₀ sheddables₀) (no-second : f .seconds ≡ 0) where
   abbrev was : Simulation
   was = t .simulation
 
@@ -242,10 +242,10 @@ module _ (t : Turn) (chunk : List ℕ) (ended : Bool) (out : List ℕ) (phase-is
       → Moved t chunk ended out (record { simulation = withSource was after; next = f .next; written = t .written; wants = Wants.Further }) out
   ends after e n r =
       let lighter : weight (withSource was after) < weight was =
-          let a = ap unended (r .ended) in let b = ap unended (sym (fr .ended) ∙ n) in omega (arith, a, b) in
+      let a = ap unended (r .ended) in let b = ap unended (sym (fr .ended) ∙ n) in omega (arith, a, b) in
       quiet t chunk ended out (withSource was after) (f .next) Wants.Further refl (λ xs l. refl)
       (λ rest h zs k. comes-with after (drop (f .next) chunk ++ rest) zs (with-rows rest zs (coming rest zs k) after (drop (f .next) chunk ++ rest) (r .held)
-        (r .rows (drop (f .next) chunk ++ rest) ∙ sym (ap (sourceRows (f .source)) (no-rest rest (h e))) ∙ on rest zs (coming rest zs k) .comes)))
+      (r .rows (drop (f .next) chunk ++ rest) ∙ sym (ap (sourceRows (f .source)) (no-rest rest (h e))) ∙ on rest zs (coming rest zs k) .comes)))
       (fr .within) (omega (arith, fr .onward)) out-in (omega (arith, lighter)) lighter
     where
       no-rest : (rest : List ℕ) → rest ≡ [] → drop (f .next) chunk ++ rest ≡ []
@@ -257,6 +257,7 @@ module _ (t : Turn) (chunk : List ℕ) (ended : Bool) (out : List ℕ) (phase-is
       by-source : (b : Bool) → sourceEnded (f .source) ≡ b → ended ≡ true → Moved t chunk ended out r out
       by-source true b e = rw (m .breaks e b) (breaks b)
       by-source false b e = rw (m .ends e b) (ends (m .after) e b (m .at-end))
+
       by-end : (b : Bool) → ended ≡ b → Moved t chunk ended out r out
       by-end false e = rw (m .awaits e) (awaits e)
       by-end true e = by-source (sourceEnded (f .source)) refl e

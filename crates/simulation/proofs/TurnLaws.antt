@@ -71,10 +71,10 @@ with-none st r = refl
 
 -- the run is as it was, but in its phase and source; `next` may have moved
 module _ (t : Turn) (chunk : List ℕ) (ended : Bool) (out : List ℕ) (s : Simulation) (next : ℕ) (wants : Wants)
-  (left-same : s .left ≡ t .simulation .left)
-  (text-same : (xs : List Inputs) → length xs ≡ s .left → toPrint (t .simulation) xs ≡ toPrint s xs)
-  (comes : (rest : List ℕ) → (ended ≡ true → rest ≡ []) → (xs : List Inputs) → Comes (t .simulation) (drop (t .next) chunk ++ rest) xs → Comes s (drop next chunk ++ rest) xs)
-  (within : next ≤ length chunk) (onward : t .next ≤ next) (fits : t .written ≤ length out) (less : weight s ≤ weight (t .simulation)) where
+    (left-same : s .left ≡ t .simulation .left)
+    (text-same : (xs : List Inputs) → length xs ≡ s .left → toPrint (t .simulation) xs ≡ toPrint s xs)
+    (comes : (rest : List ℕ) → (ended ≡ true → rest ≡ []) → (xs : List Inputs) → Comes (t .simulation) (drop (t .next) chunk ++ rest) xs → Comes s (drop next chunk ++ rest) xs)
+    (within : next ≤ length chunk) (onward : t .next ≤ next) (fits : t .written ≤ length out) (less : weight s ≤ weight (t .simulation)) where
   abbrev after : Turn
   after = record { simulation = s; next = next; written = t .written; wants = wants }
 

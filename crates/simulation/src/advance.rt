@@ -20,13 +20,7 @@ fn goes_on(wants: Wants) -> bool
 
 // Goes on with the chunk from a place on, until it wants input or room or all is handed over. `ended` says that the sample file has
 // no byte after the chunk.
-pub fn advance(
-    simulation: Simulation,
-    chunk: &[u8],
-    at: usize,
-    ended: bool,
-    out: &mut [u8],
-) -> Turn
+pub fn advance(simulation: Simulation, chunk: &[u8], at: usize, ended: bool, out: &mut [u8]) -> Turn
     ensures { λ r. ⌜ Called simulation (now (chunk .entry)) at ended (now (out .entry)) r (now (out .exit)) ⌝ }
 {
     let mut t = Turn {

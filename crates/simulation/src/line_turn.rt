@@ -36,6 +36,7 @@ fn put_refused(refusal: Refusal, tail: &mut [u8]) -> Outcome
     let answer = number_and_place(refusal);
     put_refusal(answer.0, answer.1, tail)
 }
+
 ghost use Rattle.simulation.specs.Text.{refusedLine};
 
 fn put_set(states: [SetState; 8], place: usize, tail: &mut [u8]) -> Outcome
@@ -47,6 +48,7 @@ fn put_set(states: [SetState; 8], place: usize, tail: &mut [u8]) -> Outcome
     let state = states[place];
     put_set_line((place + 1) as u32, state, tail)
 }
+
 ghost use Rattle.simulation.specs.Text.{setLineAt};
 
 // The line that a phase has, at the front of the buffer's tail.
@@ -69,6 +71,7 @@ fn next_place(place: usize) -> usize
 {
     if place < 8 { place + 1 } else { 8 }
 }
+
 ghost use Prim.Native.Nat.{suc, min};
 
 // The phase after its line.

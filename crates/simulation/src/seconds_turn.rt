@@ -33,6 +33,7 @@ pub(crate) fn lesser(a: usize, b: usize) -> usize
 {
     if a < b { a } else { b }
 }
+
 ghost use Prim.Native.Nat.{min};
 
 // How many seconds one turn works: as many as have room, whatever their rows are.
@@ -45,6 +46,7 @@ fn batch(left: u32, room: usize) -> usize
         (room - (LEAST_ROW_BUFFER - MOST_ROW)) / MOST_ROW,
     )
 }
+
 ghost use Prim.Native.Nat.{_+_, _-_, _*_};
 
 fn with_source(simulation: Simulation, source: InputSource) -> Simulation
@@ -61,9 +63,16 @@ fn with_source(simulation: Simulation, source: InputSource) -> Simulation
         left: simulation.left,
     }
 }
+
 ghost use Rattle.simulation.specs.Text.{withSource, withWorked};
 
-fn with_worked(simulation: Simulation, phase: Phase, source: InputSource, run: Run, left: u32) -> Simulation
+fn with_worked(
+    simulation: Simulation,
+    phase: Phase,
+    source: InputSource,
+    run: Run,
+    left: u32,
+) -> Simulation
     ensures { λ r. ⌜ r ≡ withWorked simulation phase source run left ⌝ }
 {
     let station = simulation.station;

@@ -30,6 +30,7 @@ fn passed_by(t: Turn, end: usize) -> Turn
         wants: Wants::Input,
     }
 }
+
 fn all_over(t: Turn) -> Turn
     ensures { λ r. ⌜ r ≡ record { simulation = withPhase (t .simulation) Phase.Over; next = t .next; written = t .written; wants = Wants.Further } ⌝ }
 {
