@@ -37,9 +37,9 @@ use Rattle.simulation.specs.Text.{textOf}
 use Rattle.simulation.specs.Turns.{ComesIn}
 use Rattle.simulation.specs.Calls.{Called}
 use Rattle.simulation.specs.Begin.{BegunAs}
-use Rattle.simulation.specs.Program.{Calls, Prints, mostCalls}
+use Rattle.simulation.specs.Program.{Calls, Prints, mostCalls, Answered, Whole}
 use Rattle.simulation.proofs.Printed.{Starts, CheckedFor, begins-right}
-use Rattle.simulation.proofs.Program.{calls-print, OfSome, some-inputs}
+use Rattle.simulation.proofs.Program.{calls-print, OfSome, some-inputs, calls-end}
 use Rattle.simulation.proofs.begin.begin.Reads as begin-reads
 use Rattle.simulation.proofs.begin.begin.Kinds as begin-kinds
 use Rattle.simulation.proofs.advance.advance.Reads as advance-reads
@@ -140,3 +140,8 @@ module _ (chunks : List (List ℕ)) (asked : List ℕ) (f₀ f : StationBytes) (
   rows-alone passTwo n out last e calls =
       let o = other-bytes passTwo 0 n out last calls in
       sym (ap (λ (p : Phase). textOf p (s .station) (s .run) (o .inputs)) e) ∙ o .begins
+
+-- ---- and they come to an end: where each call of `advance` is answered, whatever it is handed
+
+pub run-ends : (lent : List ℕ) → 256 ≤ length lent → ((s : Simulation) (chunk : List ℕ) (at : ℕ) (ended : Bool) → Answered CalledBy s chunk at ended lent) → (s : Simulation) (chunks : List (List ℕ)) → Whole CalledBy s 0 chunks
+run-ends lent roomy answers s chunks = calls-end CalledBy (λ s chunk at ended lent r left one. called-owes one) lent roomy answers s chunks

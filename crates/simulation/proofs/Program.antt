@@ -14,7 +14,7 @@ use Rattle.simulation.specs.declared.state.Wants.{Wants}
 use Rattle.simulation.specs.Text.{textOf, toPrint}
 use Rattle.simulation.specs.Turns.{Coming, ComesIn, Comes, ComesOn, weight, finished}
 use Rattle.simulation.specs.Calls.{Stopped, Called}
-use Rattle.simulation.specs.Program.{first, others, isEnd, leftAt, Calls, Prints, mostCalls}
+use Rattle.simulation.specs.Program.{first, others, isEnd, leftAt, Calls, Prints, mostCalls, Answered, Whole}
 use Rattle.simulation.proofs.InputsRight.{held-length}
 use Rattle.simulation.proofs.Printed.{Starts}
 
@@ -182,3 +182,33 @@ some-inputs {s} {last} calls =
     dark-length : (n : ℕ) → length (dark n) ≡ n
     dark-length zero = refl
     dark-length (suc n) = ap suc (dark-length n)
+
+-- ---- the calls come to an end: where each call is answered, there is such a list up to one that wants nothing, for every list of chunks
+
+module _ (One : Simulation → List ℕ → ℕ → Bool → List ℕ → Turn → List ℕ → Type 0) (owes : (s : Simulation) (chunk : List ℕ) (at : ℕ) (ended : Bool) (lent : List ℕ) (r : Turn) (left : List ℕ) → One s chunk at ended lent r left → Called s chunk at ended lent r left)
+  (lent : List ℕ) (roomy : 256 ≤ length lent) (answers : (s : Simulation) (chunk : List ℕ) (at : ℕ) (ended : Bool) → Answered One s chunk at ended lent) where
+  whole-within : (most : ℕ) (s : Simulation) (at : ℕ) (chunks : List (List ℕ)) → mostCalls s chunks ≤ most → Whole One s at chunks
+  whole-within zero s at chunks h = absurd (omega (arith, h))
+  whole-within (suc most) s at chunks h =
+      let a = answers s (first chunks) at (isEnd chunks) in
+      by-wants (a .turn) (a .left) (a .one) (a .turn .wants) refl
+      (λ near. whole-within most (a .turn .simulation) (a .turn .next) chunks (omega (arith, near, h)))
+      (λ fewer less. whole-within most (a .turn .simulation) 0 (others chunks) (omega (arith, fewer, less, h)))
+    where
+      by-wants : (r : Turn) (left : List ℕ) → One s (first chunks) at (isEnd chunks) lent r left → (w : Wants) → r .wants ≡ w
+          → (weight (r .simulation) < weight s → Whole One (r .simulation) (r .next) chunks)
+          → (length chunks ≡ suc (length (others chunks)) → weight (r .simulation) ≤ weight s → Whole One (r .simulation) 0 (others chunks)) → Whole One s at chunks
+      by-wants r left one Wants.Further e nearer fewer = absurd (subst (λ (x : Wants). Stopped x s (first chunks) (isEnd chunks) lent r) e (owes s (first chunks) at (isEnd chunks) lent r left one .wants))
+      by-wants r left one Wants.Input e nearer fewer =
+          let z : Stopped Wants.Input s (first chunks) (isEnd chunks) lent r = subst (λ (x : Wants). Stopped x s (first chunks) (isEnd chunks) lent r) e (owes s (first chunks) at (isEnd chunks) lent r left one .wants) in
+          let rest = fewer (more-chunks chunks (z .1)) (owes s (first chunks) at (isEnd chunks) lent r left one .less) in
+          record { count = suc (rest .count); out = take (r .written) left ++ rest .out; last = rest .last; calls = Calls.input r lent left one roomy e (rest .calls); over = rest .over }
+      by-wants r left one Wants.Room e nearer fewer =
+          let z : Stopped Wants.Room s (first chunks) (isEnd chunks) lent r = subst (λ (x : Wants). Stopped x s (first chunks) (isEnd chunks) lent r) e (owes s (first chunks) at (isEnd chunks) lent r left one .wants) in
+          let rest = nearer (z .1 roomy) in
+          record { count = suc (rest .count); out = take (r .written) left ++ rest .out; last = rest .last; calls = Calls.room r lent left one roomy e (rest .calls); over = rest .over }
+      by-wants r left one Wants.Nothing e nearer fewer =
+          record { count = 1; out = take (r .written) left; last = r .simulation; calls = Calls.over r lent left one roomy e; over = subst (λ (x : Wants). Stopped x s (first chunks) (isEnd chunks) lent r) e (owes s (first chunks) at (isEnd chunks) lent r left one .wants) }
+
+  pub calls-end : (s : Simulation) (chunks : List (List ℕ)) → Whole One s 0 chunks
+  calls-end s chunks = whole-within (mostCalls s chunks) s 0 chunks (omega arith)

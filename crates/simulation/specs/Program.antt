@@ -54,3 +54,17 @@ pub record Prints (text : List ℕ) (most n : ℕ) (out : List ℕ) (last : Simu
 -- the most calls there are: one for each chunk, and one for each step of the run towards its end
 abbrev pub mostCalls : Simulation → List (List ℕ) → ℕ
 mostCalls s chunks = length chunks + weight s + 1
+
+-- a call was answered
+pub record Answered (One : Simulation → List ℕ → ℕ → Bool → List ℕ → Turn → List ℕ → Type 0) (s : Simulation) (chunk : List ℕ) (at : ℕ) (ended : Bool) (lent : List ℕ) : Type 0 where
+  pub turn : Turn
+  pub left : List ℕ
+  pub one : One s chunk at ended lent turn left
+
+-- calls up to one that wants nothing
+pub record Whole (One : Simulation → List ℕ → ℕ → Bool → List ℕ → Turn → List ℕ → Type 0) (s : Simulation) (at : ℕ) (chunks : List (List ℕ)) : Type 0 where
+  pub count : ℕ
+  pub out : List ℕ
+  pub last : Simulation
+  pub calls : Calls One s at chunks count out last
+  pub over : finished (last .phase) ≡ true
