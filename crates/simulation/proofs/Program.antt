@@ -186,7 +186,7 @@ some-inputs {s} {last} calls =
 -- ---- the calls come to an end: where each call is answered, there is such a list up to one that wants nothing, for every list of chunks
 
 module _ (One : Simulation → List ℕ → ℕ → Bool → List ℕ → Turn → List ℕ → Type 0) (owes : (s : Simulation) (chunk : List ℕ) (at : ℕ) (ended : Bool) (lent : List ℕ) (r : Turn) (left : List ℕ) → One s chunk at ended lent r left → Called s chunk at ended lent r left)
-  (lent : List ℕ) (roomy : 256 ≤ length lent) (answers : (s : Simulation) (chunk : List ℕ) (at : ℕ) (ended : Bool) → Answered One s chunk at ended lent) where
+    (lent : List ℕ) (roomy : 256 ≤ length lent) (answers : (s : Simulation) (chunk : List ℕ) (at : ℕ) (ended : Bool) → Answered One s chunk at ended lent) where
   whole-within : (most : ℕ) (s : Simulation) (at : ℕ) (chunks : List (List ℕ)) → mostCalls s chunks ≤ most → Whole One s at chunks
   whole-within zero s at chunks h = absurd (omega (arith, h))
   whole-within (suc most) s at chunks h =
