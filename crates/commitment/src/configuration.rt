@@ -60,6 +60,10 @@ fn usable_covering(barred: u32, held: f64, mask: u32, cap: u32) -> bool
 fn capacity_fitting(sets: [GenSet; 8], mask: u32) -> u32
     ensures { λ r. ⌜ r ≡ min (capacity sets mask) 4_294_967_295 ⌝ }
 {
+    // most places of a table have no configuration
+    if mask == 0 {
+        return 0;
+    }
     let cap = capacity(sets, mask);
     if 4_294_967_295 < cap {
         return 4_294_967_295;
