@@ -1,0 +1,29 @@
+-- `intake::tally::at_word_end` meets its contract. Assumes nothing.
+use mathlib.Core.Path.{_≡_}
+use native.Mathlib.Omega.{arith}
+use Rattle.intake.specs.Tally.{atWordEnd}
+use Rattle.intake.proofs.TallyLaws.{at-word-end-last}
+use Rattle.intake.proofs.tally.at_word_end.Statement.{statement}
+use Rattle.intake.proofs.tally.at_word_end.Tie as tie
+use Rattle.intake.proofs.tally.at_word_end.Reads as reads
+use Rattle.intake.proofs.tally.at_word_end.Lts as lts
+
+returns : tie.Need-returns
+unfolding atWordEnd
+returns c = rw (c .match .keys1)
+
+returns-2 : tie.Need-returns-2
+unfolding atWordEnd
+returns-2 c = rw (c .match .keys2)
+
+returns-3 : tie.Need-returns-3
+unfolding atWordEnd
+returns-3 c = rw (c .match .keys3)
+
+returns-4 : tie.Need-returns-4
+returns-4 c =
+    let k = c .match .rest in
+    at-word-end-last _ _ (omega (arith, k))
+
+pub at-word-end-spec : {M : Type 1} → statement M
+at-word-end-spec = tie.close (tie.spec returns returns-2 returns-3 returns-4)
