@@ -9,3 +9,4 @@ pub mod HeadingLineLaws
 pub mod RowLaws
 pub mod RowCells
 pub mod UsualLaws
+pub mod PowersLaws

@@ -23,7 +23,7 @@ use Rattle.sheet.specs.declared.usual.DigitRun.{DigitRun}
 use Rattle.sheet.specs.declared.usual.PowerRun.{PowerRun}
 use Rattle.sheet.specs.Rows.{rowIn, rowOfValues, rowOfCells}
 use Rattle.sheet.specs.declared.usual.Usual.{Usual}
-use Rattle.sheet.specs.Usual.{Part, DigitsTaken, PowerTaken, PowersNamed, UsualRight, usualValues, usualOf}
+use Rattle.sheet.specs.Usual.{Part, DigitsTaken, PowerTaken, AfterComma, PowersNamed, UsualRight, usualValues, usualOf}
 use Rattle.sheet.specs.Headings.{columnsOf}
 use Rattle.sheet.proofs.PartsAt.{part-last}
 use Rattle.sheet.proofs.DigitLaws.{from-below, below-most}
@@ -324,10 +324,6 @@ power-end s at r t = omega (arith, t .most, t .part .size)
 pub neither : (a b : Bool) → a || b ≡ false → (a ≡ false) × (b ≡ false)
 neither true b e = never (sym e)
 neither false b e = (refl, e)
-
--- what stands after a comma
-abbrev pub AfterComma : List ℕ → ℕ → PowerRun → Type 0
-AfterComma s at r = (getD s at 0 ≡ 44) × PowerTaken s (at + 1) r
 
 pub usual-line : (columns : Columns) (s : List ℕ) (at : ℕ) (time : DigitRun) (second third fourth : PowerRun) → PowersNamed columns → at + 44 ≤ length s
     → DigitsTaken s at 9 0 time → (eqb (time .end) at || ltb 316223999 (time .number)) ≡ false

@@ -1,10 +1,10 @@
 -- Document 01, "The sample file": what reading the usual row in one pass owes. It is a row of `Rows`, and nothing is defined anew.
-use Prim.Native.Nat.{ℕ, _+_, _≤_, _<_}
+use Prim.Native.Nat.{ℕ, zero, suc, _+_, _≤_, _<_}
 use mathlib.Core.Path.{_≡_}
 use mathlib.Core.Bool.{Bool, true}
 use mathlib.Core.List.{List, [], _∷_, _++_}
 use lib.Dec.{leb}
-use lib.ListN.{length, drop}
+use lib.ListN.{length, drop, getD}
 use Rattle.bytes.specs.Bytes.{indexOf}
 use Rattle.rules.specs.declared.samples.Sample.{Sample}
 use Rattle.rules.specs.Numbers.{every}
@@ -39,6 +39,15 @@ pub record PowerTaken (s : List ℕ) (at : ℕ) (r : PowerRun) : Type 0 where
   pub most : length cell ≤ 10
   pub clean : every (λ x. leb 46 x) cell ≡ true
   pub value : (line : ℕ) → powerCell line 50000000 cell ≡ accepted (r .watts)
+
+-- the power after the comma at this place
+abbrev pub AfterComma : List ℕ → ℕ → PowerRun → Type 0
+AfterComma s at r = (getD s at 0 ≡ 44) × PowerTaken s (at + 1) r
+
+-- so many powers, one after the other, each after a comma, and their watts
+abbrev pub PowersTaken : ℕ → List ℕ → ℕ → ℕ → List ℕ → Type 0
+PowersTaken zero s at end watts = end ≡ at
+PowersTaken (suc n) s at end watts = (middle : ℕ) × PowersTaken n s at middle watts × AfterComma s middle (record { end = end; watts = getD watts n 0; usual = true })
 
 -- the line from a place on, which ends at the LF before `next`, is a row
 pub record UsualRight (columns : Columns) (s : List ℕ) (at : ℕ) (x : Sample) (next : ℕ) : Type 0 where

@@ -38,7 +38,7 @@ fn refusal_of(line: u64, cell: CellValue) -> Refusal
 }
 
 // The value of the first column after the time's that has this name.
-fn value_under(name: u8, columns: Columns, powers: Powers) -> u32
+pub(crate) fn value_under(name: u8, columns: Columns, powers: Powers) -> u32
     ensures { λ r. ⌜ ((time : ℕ) → 0 < name → r ≡ valueUnder name (columnsOf columns) (time ∷ powers .second ∷ powers .third ∷ powers .fourth ∷ [])) ⌝ }
 {
     if name == columns.second {
@@ -54,7 +54,7 @@ fn value_under(name: u8, columns: Columns, powers: Powers) -> u32
 }
 
 // 20: "sheddable load above load".
-pub(crate) fn agreeing(line: u64, columns: Columns, at: u32, powers: Powers) -> RowRead
+fn agreeing(line: u64, columns: Columns, at: u32, powers: Powers) -> RowRead
     ensures { λ r. ⌜ rowOf r ≡ rowOfValues columns line (at ∷ powers .second ∷ powers .third ∷ powers .fourth ∷ []) ⌝ }
 {
     let load = value_under(1, columns, powers);

@@ -4,13 +4,12 @@ ghost use mathlib.Core.Path.{_≡_};
 ghost use mathlib.Core.Bool.{true};
 ghost use Prim.Native.Nat.{ℕ, _+_, _-_, _^_, _≤_, _<_};
 ghost use lib.ListN.{length, getD};
-ghost use Rattle.sheet.specs.Usual.{DigitsTaken, PowerTaken, PowersNamed, usualValues, usualOf};
+ghost use Rattle.sheet.specs.Usual.{DigitsTaken, PowerTaken, PowersTaken, PowersNamed, usualOf};
 use crate::headings::Columns;
 use crate::numbers::last_worth;
 use crate::numbers::wide;
 use crate::rows::Powers;
-use crate::rows::RowRead;
-use crate::rows::agreeing;
+use crate::rows::value_under;
 use rules::limits::MOST_DECIMALS;
 use rules::limits::MOST_KW_DIGITS;
 use rules::limits::MOST_POWER;
@@ -38,6 +37,13 @@ struct DigitRun {
 struct PowerRun {
     end: usize,
     watts: u32,
+    usual: bool,
+}
+
+// Where three powers end, and their watts in the file's order.
+struct PowersRun {
+    end: usize,
+    watts: [u32; 3],
     usual: bool,
 }
 
@@ -105,6 +111,34 @@ fn power_after(text: &[u8], comma: usize) -> PowerRun
     power_from(text, comma + 1)
 }
 
+// Three powers, each after a comma. The loop has the one call of `power_after`, so that it costs no call.
+fn powers_after(text: &[u8], comma: usize) -> PowersRun
+    requires { ⌜ comma + 34 ≤ length (now text) ⌝ }
+    ensures { λ r. ⌜ (r .usual ≡ true → PowersTaken 3 (now (text .entry)) comma (r .end) (r .watts)) ⌝ }
+{
+    let mut watts: [u32; 3] = [0; 3];
+    let mut end = comma;
+    let mut taken = 0;
+    while taken < 3 {
+        let power = power_after(text, end);
+        if !power.usual {
+            return PowersRun {
+                end,
+                watts,
+                usual: false,
+            };
+        }
+        watts[taken] = power.watts;
+        end = power.end;
+        taken += 1;
+    }
+    PowersRun {
+        end,
+        watts,
+        usual: true,
+    }
+}
+
 // Whether each column after the time's has the name of a power.
 fn powers_named(columns: Columns) -> bool
     ensures { λ r. ⌜ (r ≡ true → PowersNamed columns) ⌝ }
@@ -117,25 +151,24 @@ fn powers_named(columns: Columns) -> bool
         & (columns.fourth <= 3)
 }
 
-// The row whose cells were taken.
-fn row_of(columns: Columns, at: u32, powers: Powers, next: usize) -> Usual
-    ensures { λ r. ⌜ usualValues columns at powers next r ⌝ }
+// Whether so many bytes have room for a usual row from a place on.
+fn has_room(len: usize, at: usize) -> bool
+    ensures { λ r. ⌜ (r ≡ true → at + 44 ≤ len) ⌝ }
 {
-    let row = agreeing(0, columns, at, powers);
-    let RowRead::Values(sample) = row else {
-        return Usual::Other;
-    };
-    Usual::Row(sample, next)
+    if len < MOST_USUAL {
+        return false;
+    }
+    if len - MOST_USUAL < at {
+        return false;
+    }
+    true
 }
 
 // The line from a place on, where it is a usual row.
 pub fn usual_row(columns: Columns, text: &[u8], at: usize) -> Usual
     ensures { λ r. ⌜ usualOf columns (now (text .entry)) at r ⌝ }
 {
-    if text.len() < MOST_USUAL {
-        return Usual::Other;
-    }
-    if text.len() - MOST_USUAL < at {
+    if !has_room(text.len(), at) {
         return Usual::Other;
     }
     if !powers_named(columns) {
@@ -145,26 +178,30 @@ pub fn usual_row(columns: Columns, text: &[u8], at: usize) -> Usual
     if (time.end == at) | (MOST_TIME < time.number) {
         return Usual::Other;
     }
-    let second = power_after(text, time.end);
-    if !second.usual {
+    let cells = powers_after(text, time.end);
+    let end = cells.end;
+    if !cells.usual {
         return Usual::Other;
     }
-    let third = power_after(text, second.end);
-    if !third.usual {
-        return Usual::Other;
-    }
-    let fourth = power_after(text, third.end);
-    if !fourth.usual {
-        return Usual::Other;
-    }
-    let end = fourth.end;
     if text[end] != b'\n' {
         return Usual::Other;
     }
+    let watts = cells.watts;
     let powers = Powers {
-        second: second.watts,
-        third: third.watts,
-        fourth: fourth.watts,
+        second: watts[0],
+        third: watts[1],
+        fourth: watts[2],
     };
-    row_of(columns, time.number, powers, end + 1)
+    let load = value_under(1, columns, powers);
+    let sheddable = value_under(3, columns, powers);
+    if load < sheddable {
+        return Usual::Other;
+    }
+    let sample = Sample {
+        at: time.number,
+        load,
+        solar: value_under(2, columns, powers),
+        sheddable,
+    };
+    Usual::Row(sample, end + 1)
 }
