@@ -1,5 +1,6 @@
 -- Laws of lines, stages and places, of the rows in force, and the theorems over every list of chunks.
 pub mod LineLaws
+pub mod UsualNext
 pub mod PlaceLaws
 pub mod StageLaws
 pub mod PlaceBound

@@ -10,11 +10,12 @@ ghost use Rattle.rules.specs.SampleFile.{sampleFile};
 ghost use Rattle.rules.specs.Bytes.{LF};
 ghost use Rattle.rules.specs.Lines.{Line, ended as endedLine, withoutCR};
 ghost use Rattle.samples.specs.ToCome.{placed, toCome, rowFirst};
-ghost use Rattle.samples.specs.Streamed.{textOf, yetToCome, LineRight, NextRight, PulledRight, endingOf};
+ghost use Rattle.samples.specs.Streamed.{usualLater, textOf, yetToCome, LineRight, NextRight, PulledRight, endingOf};
 use crate::stage::Found;
 use crate::stage::Stage;
 use crate::stage::Turn;
 use crate::stage::after_later;
+use crate::stage::later_at;
 use crate::stage::next_line;
 use crate::stage::take_line;
 use crate::stage::too_long;
@@ -240,13 +241,7 @@ fn line_at(stage: Stage, line: &[u8; 512], len: usize, chunk: &[u8], at: usize) 
 }
 
 // The next row out of the lines that end in the chunk, from a place on; the bytes of the line that has begun are left alone.
-pub(crate) fn next_row(
-    stage: Stage,
-    line: &[u8; 512],
-    len: usize,
-    chunk: &[u8],
-    at: usize,
-) -> NextRow
+fn any_row(stage: Stage, line: &[u8; 512], len: usize, chunk: &[u8], at: usize) -> NextRow
     ensures { λ r. ⌜ NextRight stage (now (line .entry)) len (now (chunk .entry)) at r ⌝ }
 {
     let mut latest = stage;
@@ -280,6 +275,48 @@ pub(crate) fn next_row(
         len: begun,
         next,
         found: Found::Nothing,
+    }
+}
+
+// The row from a place of the chunk on, where it is a usual one that is later than the last, and no byte of its line came before.
+fn usual_after(stage: Stage, len: usize, chunk: &[u8], at: usize) -> Usual
+    ensures { λ r. ⌜ usualLater stage len (now (chunk .entry)) at r ⌝ }
+{
+    if 0 < len {
+        return Usual::Other;
+    }
+    let Stage::LaterRows(columns, last, _) = stage else {
+        return Usual::Other;
+    };
+    let usual = usual_row(columns, chunk, at);
+    let Usual::Row(sample, next) = usual else {
+        return Usual::Other;
+    };
+    if sample.at <= last {
+        return Usual::Other;
+    }
+    Usual::Row(sample, next)
+}
+
+// The same; nearly every row is a usual one, which takes no turn of a loop.
+pub(crate) fn next_row(
+    stage: Stage,
+    line: &[u8; 512],
+    len: usize,
+    chunk: &[u8],
+    at: usize,
+) -> NextRow
+    ensures { λ r. ⌜ NextRight stage (now (line .entry)) len (now (chunk .entry)) at r ⌝ }
+{
+    let usual = usual_after(stage, len, chunk, at);
+    let Usual::Row(sample, next) = usual else {
+        return any_row(stage, line, len, chunk, at);
+    };
+    NextRow {
+        stage: later_at(stage, sample.at),
+        len: 0,
+        next,
+        found: Found::Row(sample),
     }
 }
 
