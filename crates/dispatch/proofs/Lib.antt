@@ -1,7 +1,10 @@
 -- Laws by subject, and what the functions' proofs share.
 pub mod Ready
+pub mod QuietLaws
 pub mod Steps
+pub mod QuietSteps
 pub mod Counting
+pub mod Adding
 pub mod Owed
 pub mod Going
 pub mod Alone

@@ -1,6 +1,8 @@
 -- What the steps inside a second may take for granted, and many seconds in one call.
 pub mod Sized
 pub mod Parts
+pub mod Quiet
+pub mod QuietSecond
 pub mod Supply
 pub mod Commit
 pub mod Seconds

@@ -79,7 +79,7 @@ fn command(genset: GenSet, state: SetState, called: bool, release: bool) -> SetS
 }
 
 // Whether the mask has the set at a place.
-fn has_set(mask: u32, place: usize) -> bool
+pub(crate) fn has_set(mask: u32, place: usize) -> bool
     requires { ⌜ place < 8 ⌝ }
     ensures { λ r. ⌜ r ≡ has mask place ⌝ }
 {

@@ -3,6 +3,8 @@ mod commands;
 mod commit;
 mod counts;
 mod parts;
+mod quiet;
+mod quiet_step;
 pub mod second;
 pub mod seconds;
 mod step;

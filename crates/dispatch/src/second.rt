@@ -34,7 +34,7 @@ fn inputs_right(inputs: Inputs) -> bool
 }
 
 // What is asked of each second of a station and a record that were judged.
-fn admit(done: u32, inputs: Inputs, room: usize) -> Verdict
+pub(crate) fn admit(done: u32, inputs: Inputs, room: usize) -> Verdict
     ensures { λ r. ⌜ verdictOf r ≡ admitted done inputs room ⌝ }
 {
     let load = inputs.load;

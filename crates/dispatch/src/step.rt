@@ -17,7 +17,7 @@ use rules::run::SetState;
 use rules::station::Station;
 
 // "The since-second changes only when the number does."
-fn since_after(call: usize, called: usize, since: u32, now: u32) -> u32
+pub(crate) fn since_after(call: usize, called: usize, since: u32, now: u32) -> u32
     ensures { λ r. ⌜ r ≡ sinceAfter call called since now ⌝ }
 {
     if call == called { since } else { now }

@@ -1,0 +1,88 @@
+// The eleven steps of a quiet second, and what is asked of it.
+ghost use mathlib.Core.Path.{_≡_};
+ghost use lib.ListN.{length};
+ghost use Rattle.laws.specs.Admitted.{Admitted};
+ghost use Rattle.commitment.specs.Choice.{Rated};
+ghost use Rattle.dispatch.specs.Parts.{runOf, SteppedTo};
+ghost use Rattle.dispatch.specs.Quiet.{sinceQuiet};
+ghost use Rattle.dispatch.specs.QuietSecond.{Calm, quietStepped};
+use crate::commit::wanted_now;
+use crate::parts::Moment;
+use crate::quiet::count_quiet;
+use crate::step::since_after;
+use crate::totals::plus;
+use commitment::configuration::chosen;
+use commitment::setpoint::held_after;
+use flows::amounts::decide;
+use flows::amounts::shed_decided;
+use flows::flow::flow;
+use rules::run::Held;
+use rules::run::Inputs;
+use rules::run::Row;
+use rules::run::SetState;
+use rules::station::Station;
+
+// What stays the same while no set changes its mode: the mask of the sets On, their capacity and floor load, and the sets that are due.
+pub(crate) struct Quiet {
+    pub(crate) on: u32,
+    pub(crate) cap: u32,
+    pub(crate) floor: u64,
+    pub(crate) barred: u32,
+}
+
+// What the steps come to: the record after them but for its arrays, and the row.
+pub(crate) struct QuietStepped {
+    pub(crate) moment: Moment,
+    pub(crate) row: Row,
+}
+
+pub(crate) fn quiet_step(
+    st: Station,
+    caps: &[u32; 64],
+    base: [SetState; 8],
+    ran: u32,
+    quiet: Quiet,
+    moment: Moment,
+    inputs: Inputs,
+    decided: &mut [u32],
+    energies: &mut [u64],
+    fuels: &mut [u64],
+) -> QuietStepped
+    requires { ⌜ Calm st base quiet ran × Admitted st (runOf moment (sinceQuiet base (quiet .on) ran (now energies) (now fuels)) (now decided)) inputs × Rated (st .sets) (st .configs) (now caps) × (length (now decided) ≡ 60) × (length (now energies) ≡ 8) × (length (now fuels) ≡ 8) ⌝ }
+    ensures { λ r. ⌜ SteppedTo st (runOf moment (sinceQuiet base (quiet .on) ran (now (energies .entry)) (now (fuels .entry))) (now (decided .entry))) inputs (quietStepped st base quiet ran (now (energies .exit)) (now (fuels .exit)) r) (now (decided .exit)) ⌝ }
+{
+    let control = st.control;
+    let battery = st.battery;
+    let sets = st.sets;
+    let setpoint = moment.setpoint;
+    let totals = moment.totals;
+    let called = moment.called;
+    let since = moment.since;
+    let done = moment.done;
+    let flows = flow(battery, moment.store, quiet.cap, quiet.floor, decided[0], inputs);
+    let watts = flows.watts;
+    let new = shed_decided(control, quiet.cap, inputs.load, watts.solar, inputs.sheddable);
+    decide(control.delay, new, decided);
+    count_quiet(sets, quiet.on, watts.diesel, quiet.cap as u64, energies, fuels);
+    let wanted = wanted_now(control, watts, inputs.sheddable);
+    let held = held_after(control.k, setpoint, wanted);
+    let call = chosen(st, caps, quiet.barred, held, called, since, done);
+    let sums = plus(totals, watts);
+    let next = Moment {
+        done: done + 1,
+        since: since_after(call, called, since, done),
+        called: call,
+        store: flows.store,
+        setpoint: Held::At(held),
+        totals: sums,
+    };
+    let row = Row {
+        second: done,
+        watts,
+        on: quiet.on,
+        sets: u32::count_ones(quiet.on),
+        call: call as u32,
+        store: flows.store,
+    };
+    QuietStepped { moment: next, row }
+}
