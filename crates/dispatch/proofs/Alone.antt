@@ -16,7 +16,8 @@ use Rattle.rules.specs.Row.{rowText}
 use Rattle.rules.specs.Second.{second, lengthAnswered, recordHanded, bufferLeft, Second}
 use Rattle.dispatch.specs.declared.seconds.Worked.{Worked}
 use Rattle.dispatch.specs.Seconds.{inputsOf, Calls, onward, callsFrom, callsOf, AsCalled, SecondsWorked}
-use Rattle.dispatch.proofs.Going.{sofar, endedBy}
+use Rattle.dispatch.specs.Going.{sofar}
+use Rattle.dispatch.proofs.Going.{endedBy}
 
 -- what the calls come to by the one answer
 abbrev pub byAnswer : Run → Answer Step → Calls

@@ -24,6 +24,7 @@ use Rattle.rules.proofs.Shapes.{Tables}
 use Rattle.laws.proofs.Kept.{second-kept}
 use Rattle.dispatch.specs.declared.seconds.Worked.{Worked}
 use Rattle.dispatch.specs.Seconds.{inputsOf, Calls, onward, callsFrom, callsOf, SecondsWorked}
+use Rattle.dispatch.specs.Going.{sofar, Going}
 
 -- ---- the tail of a buffer that was lent, and the buffer when it has come back
 
@@ -74,15 +75,11 @@ pub row-means : (a : Answer Step) (r : Run) (size : ℕ) (after : Run) (lent lef
 row-means (accepted s) r size after lent left e h b = record { worked = s; accepts = refl; size-is = (cc); after-is = h; left-is = b }
 row-means (refused n p) r size after lent left e h b = absurd (let z : _≡_ {A = ℕ} 0 1 = cc in omega arith)
 
-refusal-means : (a : Answer Step) (why : Refusal) (lent left : List ℕ) → refusalOf why ≡ lengthAnswered a → left ≡ bufferLeft lent a → (a ≡ refusalOf why) × (left ≡ lent)
+pub refusal-means : (a : Answer Step) (why : Refusal) (lent left : List ℕ) → refusalOf why ≡ lengthAnswered a → left ≡ bufferLeft lent a → (a ≡ refusalOf why) × (left ≡ lent)
 refusal-means (accepted s) why lent left e b = absurd (let z : _≡_ {A = ℕ} 0 1 = cc in omega arith)
 refusal-means (refused n p) why lent left e b = ((cc), b)
 
 -- ---- the loop
-
--- so many seconds worked, with these rows
-abbrev pub sofar : Run → ℕ → List ℕ → Calls
-sofar r i text = record { run = r; seconds = i; text = text; ended = accepted tt }
 
 abbrev pub endedBy : Run → ℕ → List ℕ → Answer (Unit {0}) → Calls
 endedBy r i text why = record { run = r; seconds = i; text = text; ended = why }
@@ -97,19 +94,11 @@ module _ (st : Station) (loads solars sheddables rows₀ : List ℕ) (r₀ : Run
   abbrev xAt : ℕ → Inputs
   xAt i = inputsAt loads solars sheddables i
 
-  -- where the loop is
-  pub record Going (rows : List ℕ) (r : Run) (at i : ℕ) : Type 0 where
-    pub range : i ≤ length xs
-    pub within : at ≤ length rows
-    pub size : length rows ≡ length rows₀
-    pub rest : drop at rows ≡ drop at rows₀
-    pub same : calls ≡ callsFrom st (length rows₀) (sofar r i (take at rows)) (drop i xs)
-
-  pub going-start : Going rows₀ r₀ 0 0
+  pub going-start : Going st loads solars sheddables rows₀ r₀ rows₀ r₀ 0 0
   unfolding callsOf
   going-start = record { range = omega arith; within = omega arith; size = refl; rest = refl; same = refl }
 
-  module _ (rows : List ℕ) (r : Run) (at i : ℕ) (g : Going rows r at i) where
+  module _ (rows : List ℕ) (r : Run) (at i : ℕ) (g : Going st loads solars sheddables rows₀ r₀ rows r at i) where
     room-is : length (drop at rows) ≡ length rows₀ - length (take at rows)
     room-is = length-drop at rows ∙ (let e = length-front rows at (g .within) in let z : length rows - at ≡ length rows₀ - length (take at rows) = omega (arith, g .size) in z)
 
@@ -143,7 +132,7 @@ module _ (st : Station) (loads solars sheddables rows₀ : List ℕ) (r₀ : Run
         told = row-means (second st r (xAt i) (length (drop at rows))) r k (h .run) (drop at rows) ys (rw a at (o .answers)) (o .hands) (o .leaves)
 
         -- an accepted one goes on
-        pub goes : length ys ≡ length (drop at rows) → (at + k ≤ length rows) × Going (take at rows ++ ys) (h .run) (at + k) (i + 1)
+        pub goes : length ys ≡ length (drop at rows) → (at + k ≤ length rows) × Going st loads solars sheddables rows₀ r₀ (take at rows ++ ys) (h .run) (at + k) (i + 1)
         goes kept =
             let t = told in
             let text : List ℕ = rowText (t .worked .row) in

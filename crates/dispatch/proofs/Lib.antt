@@ -7,6 +7,7 @@ pub mod Counting
 pub mod Adding
 pub mod Owed
 pub mod Going
+pub mod Walking
 pub mod Alone
 pub mod RowLength
 pub mod FromStart

@@ -2,8 +2,9 @@
 pub mod Sized
 pub mod Parts
 pub mod Quiet
-pub mod QuietSecond
 pub mod Supply
 pub mod Commit
 pub mod Seconds
+pub mod Going
+pub mod QuietSecond
 pub mod Calls
