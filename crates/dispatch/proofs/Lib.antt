@@ -6,6 +6,7 @@ pub mod QuietSteps
 pub mod Counting
 pub mod Adding
 pub mod Owed
+pub mod QuietEnds
 pub mod Going
 pub mod Walking
 pub mod Alone

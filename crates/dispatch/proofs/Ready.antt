@@ -79,6 +79,21 @@ unfolding statePossible
 within-of true g s done h = from-rules g s done (both (modePossible g (s .mode)) (countsPossible g s done) h .1)
 within-of false g s done h = zero-within g s done (both (isOff (s .mode)) (allZero (s .run ∷ s .clock ∷ s .starts ∷ s .stops ∷ s .energy ∷ s .fuel ∷ [])) h .1)
 
+-- every set of a possible record
+module _ (st : Station) (given : someFileGives st ≡ true) (r : Run) (p : possible st r ≡ true) where
+  asked-of : (i : ℕ) → getD (recordRules st r) i true ≡ true
+  unfolding possible
+  asked-of i = all-at (recordRules st r) i p
+
+  at-place : (i : ℕ) → i < 8 → statePossible (ltb i (st .setcount)) (setAt (st .sets) i) (stateAt (r .sets) i) (r .done) ≡ true
+  unfolding statesPossible
+  at-place i l = to-at (λ j. statePossible (ltb j (st .setcount)) (setAt (st .sets) j) (stateAt (r .sets) j) (r .done)) 8 (asked-of 4) i l
+
+  pub small-at : (i : ℕ) → i < 8 → Small (stateAt (r .sets) i)
+  small-at i l =
+      small-of (setAt (st .sets) i) (stateAt (r .sets) i) (r .done) (rating-most st given i) (leb-true _ _ (asked-of 0))
+      (within-of (ltb i (st .setcount)) (setAt (st .sets) i) (stateAt (r .sets) i) (r .done) (at-place i l))
+
 -- a set that the station has not is Off, and stays so
 never-on : (g : GenSet) (s : SetState) (done : ℕ) → statePossible false g s done ≡ true → isOn (tick g s .mode) ≡ true → ⊥
 unfolding statePossible tick tickFrom

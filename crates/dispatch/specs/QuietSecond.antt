@@ -72,3 +72,25 @@ pub record Walkable (st : Station) (base : List SetState) (q : Quiet) (m : Momen
   pub sixty : length decided ≡ 60
   pub energies-length : length energies ≡ 8
   pub fuels-length : length fuels ≡ 8
+
+-- what is kept of the sets, where the mask has those On
+pub record Kept (st : Station) (base : List SetState) (on : ℕ) (q : Quiet) : Type 0 where
+  pub is-on : q .on ≡ on
+  pub is-cap : q .cap ≡ capacity (st .sets) (q .on)
+  pub is-floor : q .floor ≡ percent (q .cap) (st .control .minload)
+  pub is-barred : q .barred ≡ barredMask (st .sets) base
+
+-- what the seconds after one may take for granted
+pub record Following (st : Station) (states : List SetState) (m : Moment) (loads solars sheddables : List ℕ) (asked from at : ℕ) (decided rows : List ℕ) : Type 0 where
+  pub file : someFileGives st ≡ true
+  pub was-possible : possible st (runOf m states decided) ≡ true
+  pub is-asked : asked ≡ length (inputsOf loads solars sheddables)
+  pub in-range : from ≤ asked
+  pub room : at ≤ length rows
+  pub sixty : length decided ≡ 60
+
+-- the sets are On or Off, and just those On are called
+pub record Quietly (st : Station) (states : List SetState) (on : ℕ) (m : Moment) : Type 0 where
+  pub is-on : on ≡ onMask states
+  pub settled : settledAll states ≡ true
+  pub called : maskCalled (st .configs) (m .called) ≡ on

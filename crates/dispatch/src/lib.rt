@@ -5,6 +5,7 @@ mod counts;
 mod parts;
 mod quiet;
 mod quiet_second;
+mod quiet_seconds;
 mod quiet_step;
 mod quiet_walk;
 pub mod second;

@@ -8,6 +8,7 @@ ghost use Rattle.rules.specs.RunRecord.{possible};
 ghost use Rattle.dispatch.specs.Seconds.{SecondsWorked};
 use crate::parts::moment_of;
 use crate::parts::whole;
+use crate::quiet_seconds::following;
 use crate::second::judged_second;
 use commitment::configuration::capacities;
 use records::possible::possible;
@@ -79,10 +80,26 @@ pub(crate) fn judged_seconds(
         let answer = handed.answer;
         match answer {
             Outcome::Row(size) => {
-                moment = handed.moment;
-                states = handed.states;
-                at += size;
-                i += 1;
+                let after = handed.moment;
+                let left = handed.states;
+                let went = following(
+                    st,
+                    &caps,
+                    left,
+                    after,
+                    loads,
+                    solars,
+                    sheddables,
+                    asked,
+                    i + 1,
+                    at + size,
+                    &mut decided,
+                    rows,
+                );
+                moment = went.moment;
+                states = went.states;
+                at = went.at;
+                i = went.next;
             }
             Outcome::Refused(refusal) => {
                 return Worked {

@@ -18,6 +18,7 @@ use Rattle.dispatch.specs.Seconds.{inputsOf}
 use Rattle.dispatch.specs.Going.{Going}
 use Rattle.dispatch.proofs.Ready.{rated}
 use Rattle.dispatch.proofs.Going.{rest-is, back-is, inputs-length, inputsAt, going-start, over, stops, hands-back, goes, stays, owed}
+use Rattle.dispatch.proofs.Walking.{back-length}
 use Rattle.dispatch.proofs.seconds.judged_seconds.Statement.{statement}
 use Rattle.dispatch.proofs.seconds.judged_seconds.Tie as tie
 use Rattle.rules.specs.declared.answers.Verdict.the-variants.{Accepted}
@@ -70,27 +71,27 @@ loop-holds c =
     let start = c .before .before .before .before .before .before .before .before .before .before .before in
     (c .before .before .before .before .before .before .places .ensures ∙ sym (inputs-length (now (start .args .loads)) (now (start .args .solars)) (now (start .args .sheddables))), start .pre .0, rw (c .moment-of .ensures) (start .pre .1), going-start _ _ _ _ _ _, sixty start)
 
-mul-t23 : tie.Need-mul-t23 Inv-loop μ-loop
-mul-t23 c = search needs
-
-shared-slice-read-t25 : tie.Need-shared-slice-read-t25 Inv-loop μ-loop
-shared-slice-read-t25 c =
-    let start = c .before .before .before .before .before .before .before .before .before .before .before .before .before .before in
-    let t = c .before .loop-test .taken in omega (arith, c .before .before .loop .inv .0, inputs-length (now (start .args .loads)) (now (start .args .solars)) (now (start .args .sheddables)))
-
 mul-t26 : tie.Need-mul-t26 Inv-loop μ-loop
 mul-t26 c = search needs
 
 shared-slice-read-t28 : tie.Need-shared-slice-read-t28 Inv-loop μ-loop
 shared-slice-read-t28 c =
-    let start = c .before .before .before .before .before .before .before .before .before .before .before .before .before .before .before in
-    let t = c .before .before .loop-test .taken in omega (arith, c .before .before .before .loop .inv .0, inputs-length (now (start .args .loads)) (now (start .args .solars)) (now (start .args .sheddables)))
+    let start = c .before .before .before .before .before .before .before .before .before .before .before .before .before .before in
+    let t = c .before .loop-test .taken in omega (arith, c .before .before .loop .inv .0, inputs-length (now (start .args .loads)) (now (start .args .solars)) (now (start .args .sheddables)))
 
 mul-t29 : tie.Need-mul-t29 Inv-loop μ-loop
 mul-t29 c = search needs
 
 shared-slice-read-t31 : tie.Need-shared-slice-read-t31 Inv-loop μ-loop
 shared-slice-read-t31 c =
+    let start = c .before .before .before .before .before .before .before .before .before .before .before .before .before .before .before in
+    let t = c .before .before .loop-test .taken in omega (arith, c .before .before .before .loop .inv .0, inputs-length (now (start .args .loads)) (now (start .args .solars)) (now (start .args .sheddables)))
+
+mul-t32 : tie.Need-mul-t32 Inv-loop μ-loop
+mul-t32 c = search needs
+
+shared-slice-read-t34 : tie.Need-shared-slice-read-t34 Inv-loop μ-loop
+shared-slice-read-t34 c =
     let start = c .before .before .before .before .before .before .before .before .before .before .before .before .before .before .before .before in
     let t = c .before .before .before .loop-test .taken in omega (arith, c .before .before .before .before .loop .inv .0, inputs-length (now (start .args .loads)) (now (start .args .solars)) (now (start .args .sheddables)))
 
@@ -115,33 +116,60 @@ judged-second-requires c κs =
 enum-known-answer : tie.Need-enum-known-answer Inv-loop μ-loop
 enum-known-answer c = search needs
 
-add-at : tie.Need-add-at Inv-loop μ-loop
-add-at c =
-    let worked = c .before .before .before .before .before .before .before .before in
+add-following : tie.Need-add-following Inv-loop μ-loop
+add-following c =
+    let worked = c .before .before .before .before .before .before .before .before .before in
+    let told = c .before .before .before .before in
     let at-loop = worked .before .before .before .before .before .before .before .before in
     let start = at-loop .before .before .before .before .before .before .before .before .before .before .before .before in
-    omega (arith, (goes _ _ _ _ _ _ _ _ _ _ (at-loop .loop .inv .3) (within worked) (handedOf (worked .judged-second .result) (worked .judged-second .last .1 .1 .1 .1 .1 .0)) (worked .judged-second .last .1 .1 .1 .1 .1 .1 .0) (owes worked) (c .before .before .before .answer .given .0 .0) (c .before .before .before .answer .given .1) (same-size worked)) .0, at-loop .loop .inv .3 .size, start .good .1 .1 .1 .1 .1 .0 .0)
-
-add-i : tie.Need-add-i Inv-loop μ-loop
-add-i c =
-    let worked = c .before .before .before .before .before .before .before .before in
-    let start = worked .before .before .before .before .before .before .before .before .before .before .before .before .before .before .before .before .before .before .before .before in
     record { fits = omega (arith, within worked, inputs-length (now (start .args .loads)) (now (start .args .solars)) (now (start .args .sheddables)), start .good .1 .1 .0 .0) }
 
+add-following-2 : tie.Need-add-following-2 Inv-loop μ-loop
+add-following-2 c =
+    let worked = c .before .before .before .before .before .before .before .before .before in
+    let told = c .before .before .before .before in
+    let at-loop = worked .before .before .before .before .before .before .before .before in
+    let start = at-loop .before .before .before .before .before .before .before .before .before .before .before .before in
+    omega (arith, (goes _ _ _ _ _ _ _ _ _ _ (at-loop .loop .inv .3) (within worked) (handedOf (worked .judged-second .result) (worked .judged-second .last .1 .1 .1 .1 .1 .0)) (worked .judged-second .last .1 .1 .1 .1 .1 .1 .0) (owes worked) (told .answer .given .0 .0) (told .answer .given .1) (same-size worked)) .0, at-loop .loop .inv .3 .size, start .good .1 .1 .1 .1 .1 .0 .0)
+
+slice-aggregate-following : tie.Need-slice-aggregate-following Inv-loop μ-loop
+slice-aggregate-following c = search needs
+
+following-requires : tie.Need-following-requires Inv-loop μ-loop
+following-requires c κs =
+    let worked = c .before .before .before .before .before .before .before .before .before .before .before in
+    let told = c .before .before .before .before .before .before in
+    let at-loop = worked .before .before .before .before .before .before .before .before in
+    let start = at-loop .before .before .before .before .before .before .before .before .before .before .before .before in
+    (record {
+      file = at-loop .loop .inv .1;
+      was-possible = stays _ _ _ _ _ _ _ _ _ _ (at-loop .loop .inv .3) (within worked) (handedOf (worked .judged-second .result) (worked .judged-second .last .1 .1 .1 .1 .1 .0)) (worked .judged-second .last .1 .1 .1 .1 .1 .1 .0) (owes worked) (told .answer .given .0 .0) (told .answer .given .1) (tables start);
+      is-asked = at-loop .loop .inv .0;
+      in-range = omega (arith, within worked, at-loop .loop .inv .0);
+      room = omega (arith, (goes _ _ _ _ _ _ _ _ _ _ (at-loop .loop .inv .3) (within worked) (handedOf (worked .judged-second .result) (worked .judged-second .last .1 .1 .1 .1 .1 .0)) (worked .judged-second .last .1 .1 .1 .1 .1 .1 .0) (owes worked) (told .answer .given .0 .0) (told .answer .given .1) (same-size worked)) .0, back-length (at-loop .loop .rows) (worked .judged-second .last .1 .1 .1 .1 .1 .1 .0) (at-loop .loop .at) (same-size worked));
+      sixty = worked .judged-second .kept .1 .1 .1 .1 .1 .0 ∙ at-loop .loop .inv .4;
+    }, rated (start .args .st) (tables start) (start .pre .0) _ (at-loop .before .before .before .before .capacities .ensures))
+
 loop-less : tie.Need-loop-less Inv-loop μ-loop
-loop-less c = search needs
+loop-less c =
+    let worked = c .before .before .before .before .before .before .before .before .before .before .before .before .before .before .before .before .before in
+    let told = c .before .before .before .before .before .before .before .before .before .before .before .before in
+    let at-loop = worked .before .before .before .before .before .before .before .before in
+    let start = at-loop .before .before .before .before .before .before .before .before .before .before .before .before in
+    omega (arith, within worked, at-loop .loop .inv .0, c .before .before .before .before .before .following .ensures .further)
 
 loop-again : tie.Need-loop-again Inv-loop μ-loop
 loop-again c =
-    let told = c .before .before .before in
-    let worked = c .before .before .before .before .before .before .before .before in
+    let worked = c .before .before .before .before .before .before .before .before .before .before .before .before .before .before .before .before .before in
+    let told = c .before .before .before .before .before .before .before .before .before .before .before .before in
     let at-loop = worked .before .before .before .before .before .before .before .before in
-    let start = at-loop .before .before .before .before .before .before .before .before .before .before .before .before in (
+    let start = at-loop .before .before .before .before .before .before .before .before .before .before .before .before in
+    let went = c .before .before .before .before .before in (
       at-loop .loop .inv .0,
       at-loop .loop .inv .1,
-      stays _ _ _ _ _ _ _ _ _ _ (at-loop .loop .inv .3) (within worked) (handedOf (worked .judged-second .result) (worked .judged-second .last .1 .1 .1 .1 .1 .0)) (worked .judged-second .last .1 .1 .1 .1 .1 .1 .0) (owes worked) (told .answer .given .0 .0) (told .answer .given .1) (tables start),
-      rw (back-is (at-loop .loop .rows) (worked .judged-second .last .1 .1 .1 .1 .1 .1 .0) (at-loop .loop .at)) ((goes _ _ _ _ _ _ _ _ _ _ (at-loop .loop .inv .3) (within worked) (handedOf (worked .judged-second .result) (worked .judged-second .last .1 .1 .1 .1 .1 .0)) (worked .judged-second .last .1 .1 .1 .1 .1 .1 .0) (owes worked) (told .answer .given .0 .0) (told .answer .given .1) (same-size worked)) .1),
-      worked .judged-second .kept .1 .1 .1 .1 .1 .0 ∙ at-loop .loop .inv .4,
+      went .following .ensures .stays-possible,
+      went .following .ensures .going _ _ (rw (back-is (at-loop .loop .rows) (worked .judged-second .last .1 .1 .1 .1 .1 .1 .0) (at-loop .loop .at)) ((goes _ _ _ _ _ _ _ _ _ _ (at-loop .loop .inv .3) (within worked) (handedOf (worked .judged-second .result) (worked .judged-second .last .1 .1 .1 .1 .1 .0)) (worked .judged-second .last .1 .1 .1 .1 .1 .1 .0) (owes worked) (told .answer .given .0 .0) (told .answer .given .1) (same-size worked)) .1)),
+      went .following .kept .1 .1 .1 .1 .1 .1 .1 .1 .1 .1 .0 ∙ worked .judged-second .kept .1 .1 .1 .1 .1 .0 ∙ at-loop .loop .inv .4,
     )
 
 enum-known-answer-2 : tie.Need-enum-known-answer-2 Inv-loop μ-loop
@@ -194,20 +222,22 @@ judged-seconds-spec =
     capacities-requires
     moment-of-requires
     loop-holds
-    mul-t23
-    shared-slice-read-t25
     mul-t26
     shared-slice-read-t28
     mul-t29
     shared-slice-read-t31
+    mul-t32
+    shared-slice-read-t34
     slice-aggregate-judged-second
     sub-judged-second
     part-judged-second-start
     part-judged-second-end
     judged-second-requires
     enum-known-answer
-    add-at
-    add-i
+    add-following
+    add-following-2
+    slice-aggregate-following
+    following-requires
     loop-less
     loop-again
     enum-known-answer-2

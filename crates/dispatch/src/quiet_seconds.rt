@@ -1,0 +1,152 @@
+// The quiet seconds that follow a second, if any.
+ghost use mathlib.Core.Path.{_≡_};
+ghost use mathlib.Core.Bool.{true};
+ghost use Prim.Native.Nat.{_+_, _≤_};
+ghost use Rattle.rules.specs.StationRecord.{someFileGives};
+ghost use Rattle.commitment.specs.Choice.{Rated};
+ghost use Rattle.dispatch.specs.Going.{GoesOn};
+ghost use Rattle.dispatch.specs.Parts.{runOf};
+ghost use Rattle.dispatch.specs.QuietSecond.{Kept, Following, Quietly};
+use crate::commands::command_all;
+use crate::parts::Moment;
+use crate::quiet::calm;
+use crate::quiet::made;
+use crate::quiet::settled;
+use crate::quiet_step::Quiet;
+use crate::quiet_walk::quiet_walk;
+use commitment::configuration::mask_called;
+use flows::floor::floor_load;
+use gensets::share::capacity;
+use modes::masks::barred_mask;
+use modes::masks::on_mask;
+use rules::run::SetState;
+use rules::station::Station;
+
+// The record after the quiet seconds but for the decided amounts, where the rows end, and the place of the next second.
+pub(crate) struct Went {
+    pub(crate) moment: Moment,
+    pub(crate) states: [SetState; 8],
+    pub(crate) at: usize,
+    pub(crate) next: usize,
+}
+
+// The place after the last of so many seconds, where so many are asked.
+fn last_quiet(asked: usize, from: usize, most: usize) -> usize
+    requires { ⌜ from ≤ asked ⌝ }
+    ensures { λ r. ⌜ (r ≤ asked) × (from ≤ r) × (r ≤ from + most) ⌝ }
+{
+    if asked - from < most {
+        asked
+    } else {
+        from + most
+    }
+}
+
+// What stays the same while no set changes its mode.
+fn kept(st: Station, states: [SetState; 8], on: u32) -> Quiet
+    requires { ⌜ someFileGives st ≡ true ⌝ }
+    ensures { λ r. ⌜ Kept st states on r ⌝ }
+{
+    let sets = st.sets;
+    let control = st.control;
+    let cap = capacity(sets, on) as u32;
+    Quiet {
+        on,
+        cap,
+        floor: floor_load(control, cap),
+        barred: barred_mask(sets, states),
+    }
+}
+
+// The quiet seconds of sets that are On or Off, of which just those On are called.
+fn quiet_seconds(
+    st: Station,
+    caps: &[u32; 64],
+    states: [SetState; 8],
+    on: u32,
+    moment: Moment,
+    loads: &[u32],
+    solars: &[u32],
+    sheddables: &[u32],
+    asked: usize,
+    from: usize,
+    at: usize,
+    decided: &mut [u32],
+    rows: &mut [u8],
+) -> Went
+    requires { ⌜ Following st states moment (now loads) (now solars) (now sheddables) asked from at (now decided) (now rows) × Rated (st .sets) (st .configs) (now caps) × Quietly st states on moment ⌝ }
+    ensures { λ r. ⌜ GoesOn st (now (loads .entry)) (now (solars .entry)) (now (sheddables .entry)) (now (rows .entry)) (runOf moment states (now (decided .entry))) at from (now (rows .exit)) (runOf (r .moment) (r .states) (now (decided .exit))) (r .at) (r .next) ⌝ }
+{
+    let sets = st.sets;
+    let configs = st.configs;
+    let mut energies = [0u64; 8];
+    let mut fuels = [0u64; 8];
+    let last = last_quiet(asked, from, calm(sets, states));
+    let quiet = kept(st, states, on);
+    let walked = quiet_walk(
+        st,
+        caps,
+        states,
+        quiet,
+        moment,
+        loads,
+        solars,
+        sheddables,
+        last,
+        from,
+        at,
+        decided,
+        &mut energies,
+        &mut fuels,
+        rows,
+    );
+    let after = walked.moment;
+    let ran = made(states, quiet.on, walked.ran, &energies, &fuels);
+    Went {
+        moment: after,
+        states: command_all(sets, ran, mask_called(configs, after.called)),
+        at: walked.at,
+        next: walked.next,
+    }
+}
+
+// Those that follow a second: none, where a set is neither On nor Off or where other sets are called.
+pub(crate) fn following(
+    st: Station,
+    caps: &[u32; 64],
+    states: [SetState; 8],
+    moment: Moment,
+    loads: &[u32],
+    solars: &[u32],
+    sheddables: &[u32],
+    asked: usize,
+    from: usize,
+    at: usize,
+    decided: &mut [u32],
+    rows: &mut [u8],
+) -> Went
+    requires { ⌜ Following st states moment (now loads) (now solars) (now sheddables) asked from at (now decided) (now rows) × Rated (st .sets) (st .configs) (now caps) ⌝ }
+    ensures { λ r. ⌜ GoesOn st (now (loads .entry)) (now (solars .entry)) (now (sheddables .entry)) (now (rows .entry)) (runOf moment states (now (decided .entry))) at from (now (rows .exit)) (runOf (r .moment) (r .states) (now (decided .exit))) (r .at) (r .next) ⌝ }
+{
+    let configs = st.configs;
+    let on = on_mask(states);
+    if mask_called(configs, moment.called) != on {
+        return Went {
+            moment,
+            states,
+            at,
+            next: from,
+        };
+    }
+    if !settled(states) {
+        return Went {
+            moment,
+            states,
+            at,
+            next: from,
+        };
+    }
+    quiet_seconds(
+        st, caps, states, on, moment, loads, solars, sheddables, asked, from, at, decided, rows,
+    )
+}
