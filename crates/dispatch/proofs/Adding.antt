@@ -106,7 +106,7 @@ module _ {sets : List GenSet} {mask diesel cap : ℕ} {energies fuels : List ℕ
 
       pub adding-more : (rate : ℕ) → rate ≡ fuelRate (setAt sets i) (diesel * (sum + ratingOf sets i) / cap - given)
           → Adding sets mask diesel cap energies fuels (i + 1) (sum + ratingOf sets i) (diesel * (sum + ratingOf sets i) / cap)
-            (set adds i (getD adds i 0 + (diesel * (sum + ratingOf sets i) / cap - given))) (set burns i (getD burns i 0 + rate))
+          (set adds i (getD adds i 0 + (diesel * (sum + ratingOf sets i) / cap - given))) (set burns i (getD burns i 0 + rate))
       unfolding energyAt fuelAt
       adding-more rate e =
           let p : getD adds i 0 + (diesel * (sum + ratingOf sets i) / cap - given) ≡ energyAt sets mask diesel energies i = rw (own-energy, takes-share, on) in

@@ -128,7 +128,7 @@ module _ (sets : List GenSet) (base : List SetState) (on : ℕ) (is-on : on ≡ 
     unfolding ticked tick sinceQuiet
     quiet-ticked =
         let each : (i : ℕ) → i < 8 → at i ≡ tickFrom (setAt sets i) (stateAt now i) (stateAt now i .mode) =
-            λ i l. sym (tick-stays (setAt sets i) (stateAt now i) (stateAt now i .mode) (ap (λ (m : Mode). isOn m || isOff m) (mode-now i l) ∙ calm-at i l) ∙ quiet-at i l) in
+        λ i l. sym (tick-stays (setAt sets i) (stateAt now i) (stateAt now i .mode) (ap (λ (m : Mode). isOn m || isOff m) (mode-now i l) ∙ calm-at i l) ∙ quiet-at i l) in
         tab-same (quietAt base on seconds energies fuels) (λ i. tickFrom (setAt sets i) (stateAt now i) (stateAt now i .mode)) 8 each
 
     pub quiet-commanded : commandedAll sets now on ≡ now
@@ -136,8 +136,8 @@ module _ (sets : List GenSet) (base : List SetState) (on : ℕ) (is-on : on ≡ 
     quiet-commanded =
         tab-same (λ i. commandFrom (setAt sets i) (stateAt now i) (has on i) (everyOn now on) (stateAt now i .mode)) (quietAt base on seconds energies fuels) 8
         (λ i l. ap (λ (b : Bool). commandFrom (setAt sets i) (stateAt now i) b (everyOn now on) (stateAt now i .mode)) (on-has i l ∙ ap isOn (sym (mode-now i l)))
-            ∙ command-stays (setAt sets i) (stateAt now i) (everyOn now on) (stateAt now i .mode) (ap (λ (m : Mode). isOn m || isOff m) (mode-now i l) ∙ calm-at i l)
-            ∙ quiet-at i l)
+        ∙ command-stays (setAt sets i) (stateAt now i) (everyOn now on) (stateAt now i .mode) (ap (λ (m : Mode). isOn m || isOff m) (mode-now i l) ∙ calm-at i l)
+        ∙ quiet-at i l)
 
     barred-at : (i : ℕ) → i < 8 → NotDue sets base seconds → due (setAt sets i) (at i) ≡ due (setAt sets i) (stateAt base i)
     unfolding quietAt
@@ -151,9 +151,9 @@ module _ (sets : List GenSet) (base : List SetState) (on : ℕ) (is-on : on ≡ 
     quiet-barred h =
         mask-same (λ i. due (setAt sets i) (stateAt base i) || inService (stateAt base i .mode)) (λ i. due (setAt sets i) (stateAt now i) || inService (stateAt now i .mode)) 8
         (λ i l. sym (
-          ap (λ (s : SetState). due (setAt sets i) s || inService (stateAt now i .mode)) (quiet-at i l)
-          ∙ ap (λ (b : Bool). b || inService (stateAt now i .mode)) (barred-at i l h)
-          ∙ ap (λ (m : Mode). due (setAt sets i) (stateAt base i) || inService m) (mode-now i l)))
+        ap (λ (s : SetState). due (setAt sets i) s || inService (stateAt now i .mode)) (quiet-at i l)
+        ∙ ap (λ (b : Bool). b || inService (stateAt now i .mode)) (barred-at i l h)
+        ∙ ap (λ (m : Mode). due (setAt sets i) (stateAt base i) || inService m) (mode-now i l)))
 
     -- one second more
     module _ (diesel : ℕ) where

@@ -95,7 +95,7 @@ module _ (st : Station) (tables : Tables st) (base : List SetState) (q : Quiet) 
     addable e f =
         let c = countable-now in
         let shown : (i : ℕ) → i < 8 → has (q .on) i ≡ true → isOn (stateAt now i .mode) ≡ true =
-            λ i l on. sym (has-now (st .sets) base (q .on) (calm .is-on) (calm .settled) ran energies fuels i l) ∙ on in
+        λ i l on. sym (has-now (st .sets) base (q .on) (calm .is-on) (calm .settled) ran energies fuels i l) ∙ on in
         record {
           is-cap = calm .is-cap;
           capacity-most = c .capacity-most;

@@ -147,6 +147,18 @@ pub(crate) fn following(
         };
     }
     quiet_seconds(
-        st, caps, states, on, moment, loads, solars, sheddables, asked, from, at, decided, rows,
+        st,
+        caps,
+        states,
+        on,
+        moment,
+        loads,
+        solars,
+        sheddables,
+        asked,
+        from,
+        at,
+        decided,
+        rows,
     )
 }

@@ -59,11 +59,31 @@ pub(crate) fn quiet_step(
     let called = moment.called;
     let since = moment.since;
     let done = moment.done;
-    let flows = flow(battery, moment.store, quiet.cap, quiet.floor, decided[0], inputs);
+    let flows = flow(
+        battery,
+        moment.store,
+        quiet.cap,
+        quiet.floor,
+        decided[0],
+        inputs,
+    );
     let watts = flows.watts;
-    let new = shed_decided(control, quiet.cap, inputs.load, watts.solar, inputs.sheddable);
+    let new = shed_decided(
+        control,
+        quiet.cap,
+        inputs.load,
+        watts.solar,
+        inputs.sheddable,
+    );
     decide(control.delay, new, decided);
-    count_quiet(sets, quiet.on, watts.diesel, quiet.cap as u64, energies, fuels);
+    count_quiet(
+        sets,
+        quiet.on,
+        watts.diesel,
+        quiet.cap as u64,
+        energies,
+        fuels,
+    );
     let wanted = wanted_now(control, watts, inputs.sheddable);
     let held = held_after(control.k, setpoint, wanted);
     let call = chosen(st, caps, quiet.barred, held, called, since, done);

@@ -33,22 +33,24 @@ quiet-walk-requires : tie.Need-quiet-walk-requires
 quiet-walk-requires c κs =
     let q = c .before .before .before .before .kept .ensures in
     let last = c .before .before .before .before .before .last-quiet .ensures in
-    let calm = c .before .before .before .before .before .before .calm .ensures in
-    (record {
-      is-on = q .is-on ∙ c .before .before .before .before .before .before .before .before .before .before .before .before .before .before .pre .2 .is-on;
-      settled = c .before .before .before .before .before .before .before .before .before .before .before .before .before .before .pre .2 .settled;
-      file = c .before .before .before .before .before .before .before .before .before .before .before .before .before .before .pre .0 .file;
-      was-possible = rw (none-ran (c .before .before .before .before .before .before .before .before .before .before .before .before .before .before .args .states) (c .before .before .before .before .kept .result .on) _ _ (eight (c .before .before .before .before .before .before .before .before .before .before .before .before .before .before)) (λ i l. getD-replicate 8 i 0 0 l) (λ i l. getD-replicate 8 i 0 0 l)) (c .before .before .before .before .before .before .before .before .before .before .before .before .before .before .pre .0 .was-possible);
-      called = c .before .before .before .before .before .before .before .before .before .before .before .before .before .before .pre .2 .called ∙ sym (q .is-on);
-      in-range = omega (arith, last .0, c .before .before .before .before .before .before .before .before .before .before .before .before .before .before .pre .0 .is-asked);
-      calm = λ ran l. record { is-on = q .is-on ∙ c .before .before .before .before .before .before .before .before .before .before .before .before .before .before .pre .2 .is-on; is-cap = q .is-cap; is-floor = q .is-floor; is-barred = q .is-barred; settled = c .before .before .before .before .before .before .before .before .before .before .before .before .before .before .pre .2 .settled; not-due = fewer _ _ _ (ran + 1) calm (omega (arith, l, last .2)) };
-      few = omega (arith, last .2, calm .most);
-      from-last = last .1;
-      room = c .before .before .before .before .before .before .before .before .before .before .before .before .before .before .pre .0 .room;
-      sixty = c .before .before .before .before .before .before .before .before .before .before .before .before .before .before .pre .0 .sixty;
-      energies-length = search needs;
-      fuels-length = search needs;
-    }, c .before .before .before .before .before .before .before .before .before .before .before .before .before .before .pre .1)
+    let calm = c .before .before .before .before .before .before .calm .ensures in (
+      record {
+        is-on = q .is-on ∙ c .before .before .before .before .before .before .before .before .before .before .before .before .before .before .pre .2 .is-on;
+        settled = c .before .before .before .before .before .before .before .before .before .before .before .before .before .before .pre .2 .settled;
+        file = c .before .before .before .before .before .before .before .before .before .before .before .before .before .before .pre .0 .file;
+        was-possible = rw (none-ran (c .before .before .before .before .before .before .before .before .before .before .before .before .before .before .args .states) (c .before .before .before .before .kept .result .on) _ _ (eight (c .before .before .before .before .before .before .before .before .before .before .before .before .before .before)) (λ i l. getD-replicate 8 i 0 0 l) (λ i l. getD-replicate 8 i 0 0 l)) (c .before .before .before .before .before .before .before .before .before .before .before .before .before .before .pre .0 .was-possible);
+        called = c .before .before .before .before .before .before .before .before .before .before .before .before .before .before .pre .2 .called ∙ sym (q .is-on);
+        in-range = omega (arith, last .0, c .before .before .before .before .before .before .before .before .before .before .before .before .before .before .pre .0 .is-asked);
+        calm = λ ran l. record { is-on = q .is-on ∙ c .before .before .before .before .before .before .before .before .before .before .before .before .before .before .pre .2 .is-on; is-cap = q .is-cap; is-floor = q .is-floor; is-barred = q .is-barred; settled = c .before .before .before .before .before .before .before .before .before .before .before .before .before .before .pre .2 .settled; not-due = fewer _ _ _ (ran + 1) calm (omega (arith, l, last .2)) };
+        few = omega (arith, last .2, calm .most);
+        from-last = last .1;
+        room = c .before .before .before .before .before .before .before .before .before .before .before .before .before .before .pre .0 .room;
+        sixty = c .before .before .before .before .before .before .before .before .before .before .before .before .before .before .pre .0 .sixty;
+        energies-length = search needs;
+        fuels-length = search needs;
+      },
+      c .before .before .before .before .before .before .before .before .before .before .before .before .before .before .pre .1,
+    )
 
 slice-aggregate-made : tie.Need-slice-aggregate-made
 slice-aggregate-made c = search needs

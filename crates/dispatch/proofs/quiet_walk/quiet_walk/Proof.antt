@@ -196,16 +196,17 @@ loop-again c =
     let start = at-loop .before .before .before .before .before .before .before .before .before in
     let calm = start .pre .0 .calm (at-loop .loop .ran) (below called) in
     let t = called .before .before .before .before .before .before .before .before .loop-test .taken in
-    let mask : maskCalled (start .args .st .configs) (called .quiet-second .result .moment .called) ≡ start .args .quiet .on = sym (c .before .before .mask-called .ensures .0) ∙ (omega (arith, c .if1 .left)) in
-    (on-row (start .args .st) (tables start) _ _ _ _ _ _ _ _ _ _ _ (at-loop .loop .inv .0) (within called) (quietHanded (start .args .st) (start .args .base) (start .args .quiet) (at-loop .loop .ran) (called .quiet-second .last .1 .1 .1 .1 .1 .1 .1 .1 .0) (called .quiet-second .last .1 .1 .1 .1 .1 .1 .1 .1 .1 .0) (called .quiet-second .last .1 .1 .1 .1 .1 .1 .1 .0) (called .quiet-second .result)) (called .quiet-second .last .1 .1 .1 .1 .1 .1 .1 .1 .1 .1 .0) (owes called) (c .before .before .before .before .before .answer .given .0 .0) (c .before .before .before .before .before .answer .given .1) (same-size called) _ (back-is (at-loop .loop .rows) (called .quiet-second .last .1 .1 .1 .1 .1 .1 .1 .1 .1 .1 .0) (at-loop .loop .at)) _ (row-run (start .args .st) (start .args .base) (start .args .quiet) (at-loop .loop .ran) (called .quiet-second .last .1 .1 .1 .1 .1 .1 .1 .1 .0) (called .quiet-second .last .1 .1 .1 .1 .1 .1 .1 .1 .1 .0) (called .quiet-second .last .1 .1 .1 .1 .1 .1 .1 .0) (called .quiet-second .result) (c .before .before .before .before .before .answer .given .0 .0) (c .before .before .before .before .before .answer .given .1) ∙ ap (λ (s : List SetState). runOf (called .quiet-second .result .moment) s (called .quiet-second .last .1 .1 .1 .1 .1 .1 .1 .0)) (stays-quiet (start .args .st) (start .args .base) (start .args .quiet .on) (calm .is-on) (calm .settled) (at-loop .loop .ran + 1) (called .quiet-second .last .1 .1 .1 .1 .1 .1 .1 .1 .0) (called .quiet-second .last .1 .1 .1 .1 .1 .1 .1 .1 .1 .0) (called .quiet-second .result .moment .called) mask)),
-    mask,
-    omega (arith, at-loop .loop .inv .2),
-    omega (arith, row-fits (start .args .st) (tables start) _ _ _ _ _ _ _ _ _ _ _ (at-loop .loop .inv .0) (within called) (quietHanded (start .args .st) (start .args .base) (start .args .quiet) (at-loop .loop .ran) (called .quiet-second .last .1 .1 .1 .1 .1 .1 .1 .1 .0) (called .quiet-second .last .1 .1 .1 .1 .1 .1 .1 .1 .1 .0) (called .quiet-second .last .1 .1 .1 .1 .1 .1 .1 .0) (called .quiet-second .result)) (called .quiet-second .last .1 .1 .1 .1 .1 .1 .1 .1 .1 .1 .0) (owes called) (c .before .before .before .before .before .answer .given .0 .0) (c .before .before .before .before .before .answer .given .1) (same-size called) (at-loop .loop .inv .3), back-length (at-loop .loop .rows) (called .quiet-second .last .1 .1 .1 .1 .1 .1 .1 .1 .1 .1 .0) (at-loop .loop .at) (same-size called)),
-    back-length (at-loop .loop .rows) (called .quiet-second .last .1 .1 .1 .1 .1 .1 .1 .1 .1 .1 .0) (at-loop .loop .at) (same-size called) ∙ at-loop .loop .inv .4,
-    called .quiet-second .kept .1 .1 .1 .1 .1 .1 .1 .0 ∙ at-loop .loop .inv .5,
-    called .quiet-second .kept .1 .1 .1 .1 .1 .1 .1 .1 .0 ∙ at-loop .loop .inv .6,
-    called .quiet-second .kept .1 .1 .1 .1 .1 .1 .1 .1 .1 .0 ∙ at-loop .loop .inv .7,
-    omega arith)
+    let mask : maskCalled (start .args .st .configs) (called .quiet-second .result .moment .called) ≡ start .args .quiet .on = sym (c .before .before .mask-called .ensures .0) ∙ (omega (arith, c .if1 .left)) in (
+      on-row (start .args .st) (tables start) _ _ _ _ _ _ _ _ _ _ _ (at-loop .loop .inv .0) (within called) (quietHanded (start .args .st) (start .args .base) (start .args .quiet) (at-loop .loop .ran) (called .quiet-second .last .1 .1 .1 .1 .1 .1 .1 .1 .0) (called .quiet-second .last .1 .1 .1 .1 .1 .1 .1 .1 .1 .0) (called .quiet-second .last .1 .1 .1 .1 .1 .1 .1 .0) (called .quiet-second .result)) (called .quiet-second .last .1 .1 .1 .1 .1 .1 .1 .1 .1 .1 .0) (owes called) (c .before .before .before .before .before .answer .given .0 .0) (c .before .before .before .before .before .answer .given .1) (same-size called) _ (back-is (at-loop .loop .rows) (called .quiet-second .last .1 .1 .1 .1 .1 .1 .1 .1 .1 .1 .0) (at-loop .loop .at)) _ (row-run (start .args .st) (start .args .base) (start .args .quiet) (at-loop .loop .ran) (called .quiet-second .last .1 .1 .1 .1 .1 .1 .1 .1 .0) (called .quiet-second .last .1 .1 .1 .1 .1 .1 .1 .1 .1 .0) (called .quiet-second .last .1 .1 .1 .1 .1 .1 .1 .0) (called .quiet-second .result) (c .before .before .before .before .before .answer .given .0 .0) (c .before .before .before .before .before .answer .given .1) ∙ ap (λ (s : List SetState). runOf (called .quiet-second .result .moment) s (called .quiet-second .last .1 .1 .1 .1 .1 .1 .1 .0)) (stays-quiet (start .args .st) (start .args .base) (start .args .quiet .on) (calm .is-on) (calm .settled) (at-loop .loop .ran + 1) (called .quiet-second .last .1 .1 .1 .1 .1 .1 .1 .1 .0) (called .quiet-second .last .1 .1 .1 .1 .1 .1 .1 .1 .1 .0) (called .quiet-second .result .moment .called) mask)),
+      mask,
+      omega (arith, at-loop .loop .inv .2),
+      omega (arith, row-fits (start .args .st) (tables start) _ _ _ _ _ _ _ _ _ _ _ (at-loop .loop .inv .0) (within called) (quietHanded (start .args .st) (start .args .base) (start .args .quiet) (at-loop .loop .ran) (called .quiet-second .last .1 .1 .1 .1 .1 .1 .1 .1 .0) (called .quiet-second .last .1 .1 .1 .1 .1 .1 .1 .1 .1 .0) (called .quiet-second .last .1 .1 .1 .1 .1 .1 .1 .0) (called .quiet-second .result)) (called .quiet-second .last .1 .1 .1 .1 .1 .1 .1 .1 .1 .1 .0) (owes called) (c .before .before .before .before .before .answer .given .0 .0) (c .before .before .before .before .before .answer .given .1) (same-size called) (at-loop .loop .inv .3), back-length (at-loop .loop .rows) (called .quiet-second .last .1 .1 .1 .1 .1 .1 .1 .1 .1 .1 .0) (at-loop .loop .at) (same-size called)),
+      back-length (at-loop .loop .rows) (called .quiet-second .last .1 .1 .1 .1 .1 .1 .1 .1 .1 .1 .0) (at-loop .loop .at) (same-size called) ∙ at-loop .loop .inv .4,
+      called .quiet-second .kept .1 .1 .1 .1 .1 .1 .1 .0 ∙ at-loop .loop .inv .5,
+      called .quiet-second .kept .1 .1 .1 .1 .1 .1 .1 .1 .0 ∙ at-loop .loop .inv .6,
+      called .quiet-second .kept .1 .1 .1 .1 .1 .1 .1 .1 .1 .0 ∙ at-loop .loop .inv .7,
+      omega arith,
+    )
 
 enum-told : tie.Need-enum-told Inv-loop μ-loop
 enum-told c = search needs

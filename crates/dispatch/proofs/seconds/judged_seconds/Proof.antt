@@ -140,15 +140,17 @@ following-requires c κs =
     let worked = c .before .before .before .before .before .before .before .before .before .before .before in
     let told = c .before .before .before .before .before .before in
     let at-loop = worked .before .before .before .before .before .before .before .before in
-    let start = at-loop .before .before .before .before .before .before .before .before .before .before .before .before in
-    (record {
-      file = at-loop .loop .inv .1;
-      was-possible = stays _ _ _ _ _ _ _ _ _ _ (at-loop .loop .inv .3) (within worked) (handedOf (worked .judged-second .result) (worked .judged-second .last .1 .1 .1 .1 .1 .0)) (worked .judged-second .last .1 .1 .1 .1 .1 .1 .0) (owes worked) (told .answer .given .0 .0) (told .answer .given .1) (tables start);
-      is-asked = at-loop .loop .inv .0;
-      in-range = omega (arith, within worked, at-loop .loop .inv .0);
-      room = omega (arith, (goes _ _ _ _ _ _ _ _ _ _ (at-loop .loop .inv .3) (within worked) (handedOf (worked .judged-second .result) (worked .judged-second .last .1 .1 .1 .1 .1 .0)) (worked .judged-second .last .1 .1 .1 .1 .1 .1 .0) (owes worked) (told .answer .given .0 .0) (told .answer .given .1) (same-size worked)) .0, back-length (at-loop .loop .rows) (worked .judged-second .last .1 .1 .1 .1 .1 .1 .0) (at-loop .loop .at) (same-size worked));
-      sixty = worked .judged-second .kept .1 .1 .1 .1 .1 .0 ∙ at-loop .loop .inv .4;
-    }, rated (start .args .st) (tables start) (start .pre .0) _ (at-loop .before .before .before .before .capacities .ensures))
+    let start = at-loop .before .before .before .before .before .before .before .before .before .before .before .before in (
+      record {
+        file = at-loop .loop .inv .1;
+        was-possible = stays _ _ _ _ _ _ _ _ _ _ (at-loop .loop .inv .3) (within worked) (handedOf (worked .judged-second .result) (worked .judged-second .last .1 .1 .1 .1 .1 .0)) (worked .judged-second .last .1 .1 .1 .1 .1 .1 .0) (owes worked) (told .answer .given .0 .0) (told .answer .given .1) (tables start);
+        is-asked = at-loop .loop .inv .0;
+        in-range = omega (arith, within worked, at-loop .loop .inv .0);
+        room = omega (arith, (goes _ _ _ _ _ _ _ _ _ _ (at-loop .loop .inv .3) (within worked) (handedOf (worked .judged-second .result) (worked .judged-second .last .1 .1 .1 .1 .1 .0)) (worked .judged-second .last .1 .1 .1 .1 .1 .1 .0) (owes worked) (told .answer .given .0 .0) (told .answer .given .1) (same-size worked)) .0, back-length (at-loop .loop .rows) (worked .judged-second .last .1 .1 .1 .1 .1 .1 .0) (at-loop .loop .at) (same-size worked));
+        sixty = worked .judged-second .kept .1 .1 .1 .1 .1 .0 ∙ at-loop .loop .inv .4;
+      },
+      rated (start .args .st) (tables start) (start .pre .0) _ (at-loop .before .before .before .before .capacities .ensures),
+    )
 
 loop-less : tie.Need-loop-less Inv-loop μ-loop
 loop-less c =
