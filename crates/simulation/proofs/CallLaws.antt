@@ -99,7 +99,8 @@ module _ (s : Simulation) (chunk : List ℕ) (at : ℕ) (ended : Bool) (out₀ :
     stops Wants.Further e = tt
     stops Wants.Input e = e
     stops Wants.Room e =
-        (omega (arith, e .0, g .size), λ roomy. let w = g .some (omega (arith, e .0, e .1, g .size, roomy)) on in omega (arith, w, m .less))
+        let wrote : 256 ≤ length out₀ → 0 < r .written = λ roomy. e .0 (omega (arith, roomy, g .size)) in
+        (wrote, λ roomy. let z = wrote roomy in let w = g .some (omega (arith, z, e .1)) on in omega (arith, w, m .less))
     stops Wants.Nothing e = e
 
     some-on : (w : Wants) → Ended w t chunk ended out r → goesOn w ≡ true → weight (r .simulation) < weight s

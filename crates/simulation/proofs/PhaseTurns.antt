@@ -39,7 +39,7 @@ module _ (t : Turn) (chunk : List ℕ) (ended : Bool) (out : List ℕ) (at-in : 
   line = lineOf (s .phase) (s .run .sets)
 
   pub room-turn : length out - t .written < 256 → Moved t chunk ended out (waitingFor t Wants.Room) out
-  room-turn h = quiet t chunk ended out s (t .next) Wants.Room refl (λ xs l. refl) (λ rest h zs k. k) at-in (omega arith) out-in (omega arith) (omega arith, refl)
+  room-turn h = quiet t chunk ended out s (t .next) Wants.Room refl (λ xs l. refl) (λ rest k zs l. l) at-in (omega arith) out-in (omega arith) (λ roomy. omega (arith, h, roomy), refl)
 
   module _ (text-is : (xs : List Inputs) → toPrint s xs ≡ line ++ toPrint next xs) (comes : (rest : List ℕ) (xs : List Inputs) → Comes s rest xs → Comes next rest xs)
       (lighter : rank (phaseAfter (s .phase)) < rank (s .phase)) where

@@ -4,6 +4,7 @@ use mathlib.Core.Path.{_≡_, refl, sym, ap, _∙_, subst}
 use mathlib.Core.Bool.{Bool, true, false}
 use mathlib.Core.List.{List, [], _∷_, _++_, append-nil, append-assoc}
 use native.Mathlib.Omega.{arith}
+use native.Mathlib.Decide.{decLt}
 use lib.ListN.{length, take, drop, length-append, drop-of-length-le}
 use Rattle.rules.specs.declared.station.Station.{Station}
 use Rattle.rules.specs.declared.run.Inputs.{Inputs}
@@ -279,6 +280,12 @@ module _ (t : Turn) (chunk : List ℕ) (ended : Bool) (out : List ℕ) (phase-is
       empty [] e = refl
       empty (x ∷ xs) e = absurd (omega (arith, e))
 
-  pub no-room-turn : length out - t .written < 256 → Moved t chunk ended out (waitingFor t Wants.Room) out
-  no-room-turn h =
-      quiet t chunk ended out (t .simulation) (t .next) Wants.Room refl (λ xs l. refl) (λ rest h zs k. k) at-in (omega arith) out-in (omega arith) (omega arith, refl)
+  pub no-room-turn : (least : ℕ) → (t .written ≡ 0 → least ≡ 256) → length out - t .written < least → Moved t chunk ended out (waitingFor t Wants.Room) out
+  no-room-turn least first h =
+      quiet t chunk ended out (t .simulation) (t .next) Wants.Room refl (λ xs l. refl) (λ rest k zs l. l) at-in (omega arith) out-in (omega arith) (wrote (decLt 0 (t .written)), refl)
+    where
+      wrote : Dec (0 < t .written) → 256 ≤ length out → 0 < t .written
+      wrote (yes l) roomy = l
+      wrote (no l) roomy =
+          let none : t .written ≡ 0 = omega (arith, l) in
+          absurd (omega (arith, first none, h, none, roomy))

@@ -17,12 +17,12 @@ goesOn Wants.Input = false
 goesOn Wants.Room = false
 goesOn Wants.Nothing = false
 
--- what a call ends for: the chunk is used up and more may come; the buffer is full, and with at least 256 bytes of it the run came
--- nearer to its end; or all is handed over
+-- what a call ends for: the chunk is used up and more may come; another buffer is wanted, and with at least 256 bytes of this one some
+-- are handed over and the run came nearer to its end; or all is handed over
 abbrev pub Stopped : Wants → Simulation → List ℕ → Bool → List ℕ → Turn → Type 0
 Stopped Wants.Further s chunk ended out r = ⊥
 Stopped Wants.Input s chunk ended out r = (r .next ≡ length chunk) × (ended ≡ false)
-Stopped Wants.Room s chunk ended out r = (length out < r .written + 256) × (256 ≤ length out → weight (r .simulation) < weight s)
+Stopped Wants.Room s chunk ended out r = (256 ≤ length out → 0 < r .written) × (256 ≤ length out → weight (r .simulation) < weight s)
 Stopped Wants.Nothing s chunk ended out r = finished (r .simulation .phase) ≡ true
 
 -- ONE CALL, with a chunk from a place on and a lent buffer

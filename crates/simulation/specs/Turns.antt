@@ -98,7 +98,7 @@ finished Phase.Broken = true
 abbrev pub Ended : Wants → Turn → List ℕ → Bool → List ℕ → Turn → Type 0
 Ended Wants.Further t chunk ended out r = weight (r .simulation) < weight (t .simulation)
 Ended Wants.Input t chunk ended out r = (r .next ≡ length chunk) × (ended ≡ false)
-Ended Wants.Room t chunk ended out r = (length out < r .written + 256) × (r .written ≡ t .written)
+Ended Wants.Room t chunk ended out r = (256 ≤ length out → 0 < r .written) × (r .written ≡ t .written)
 Ended Wants.Nothing t chunk ended out r = finished (r .simulation .phase) ≡ true
 
 -- ---- ONE TURN

@@ -23,7 +23,7 @@ use samples::inputs::fill;
 use samples::inputs::has_ended;
 
 // The most seconds of one turn.
-const MOST_BATCH: usize = 256;
+const MOST_BATCH: usize = 512;
 
 // "row buffer under 256 bytes", and no row needs more than 153 bytes of them.
 const MOST_ROW: usize = 153;
@@ -36,10 +36,23 @@ pub(crate) fn lesser(a: usize, b: usize) -> usize
 
 ghost use Prim.Native.Nat.{min};
 
+// A buffer that has rows and less room than this is handed over: a turn costs as much for a few seconds as for hundreds.
+const FAIR_ROOM: usize = 8192;
+
+// The least room that a turn is to have, where so many bytes are written.
+fn least_room(written: usize) -> usize
+    ensures { λ r. ⌜ (256 ≤ r) × (written ≡ 0 → r ≡ 256) ⌝ }
+{
+    if written == 0 {
+        return LEAST_ROW_BUFFER;
+    }
+    FAIR_ROOM
+}
+
 // How many seconds one turn works: as many as have room, whatever their rows are.
 fn batch(left: u32, room: usize) -> usize
     requires { ⌜ (0 < left) × (256 ≤ room) ⌝ }
-    ensures { λ r. ⌜ (1 ≤ r) × (r ≤ 256) × (r ≤ left) × (153 * r + 103 ≤ room) ⌝ }
+    ensures { λ r. ⌜ (1 ≤ r) × (r ≤ 512) × (r ≤ left) × (153 * r + 103 ≤ room) ⌝ }
 {
     lesser(
         lesser(left as usize, MOST_BATCH),
@@ -210,13 +223,13 @@ pub(crate) fn seconds_turn(t: Turn, chunk: &[u8], ended: bool, out: &mut [u8]) -
         };
     }
     let room = out.len() - t.written;
-    if room < LEAST_ROW_BUFFER {
+    if room < least_room(t.written) {
         return waiting(t, Wants::Room);
     }
     let want = batch(left, room);
-    let mut loads = [0u32; 256];
-    let mut solars = [0u32; 256];
-    let mut sheddables = [0u32; 256];
+    let mut loads = [0u32; 512];
+    let mut solars = [0u32; 512];
+    let mut sheddables = [0u32; 512];
     some_seconds(
         t,
         chunk,

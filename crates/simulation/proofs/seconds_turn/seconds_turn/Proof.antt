@@ -11,6 +11,7 @@ use Rattle.simulation.proofs.seconds_turn.seconds_turn.Lts as lts
 use Rattle.simulation.proofs.line_turn.waiting.Reads as waiting-reads
 use Rattle.simulation.proofs.line_turn.with_phase.Reads as with-phase-reads
 use Rattle.simulation.proofs.seconds_turn.batch.Reads as batch-reads
+use Rattle.simulation.proofs.seconds_turn.least_room.Reads as least-room-reads
 use Rattle.simulation.proofs.seconds_turn.some_seconds.Reads as some-seconds-reads
 
 -- src/seconds_turn.rt:197:25
@@ -27,6 +28,10 @@ returns c =
 sub-room : tie.Need-sub-room
 sub-room c = search needs
 
+-- src/seconds_turn.rt:218:15
+least-room-requires : tie.Need-least-room-requires
+least-room-requires c κs = search needs
+
 -- src/seconds_turn.rt:205:9
 waiting-requires : tie.Need-waiting-requires
 waiting-requires c κs = search needs
@@ -34,8 +39,9 @@ waiting-requires c κs = search needs
 -- src/seconds_turn.rt:205:9
 returns-2 : tie.Need-returns-2
 returns-2 c =
-    let start = c .before .before .before .before .before .before .before in
-    rw (c .waiting .ensures) (no-room-turn (start .args .t) (now (start .args .chunk)) (start .args .ended) (now (start .args .out)) (start .pre .0) (start .pre .1) (start .pre .2) (c .before .if2 .taken))
+    let start = c .before .before .before .before .before .before .before .before in
+    rw (c .waiting .ensures) (no-room-turn (start .args .t) (now (start .args .chunk)) (start .args .ended) (now (start .args .out)) (start .pre .0) (start .pre .1) (start .pre .2)
+    (c .before .before .least-room .result) (c .before .before .least-room .ensures .1) (c .before .if2 .taken))
 
 -- src/seconds_turn.rt:207:9
 batch-requires : tie.Need-batch-requires
@@ -68,7 +74,7 @@ slice-aggregate-some-seconds-3 c = simp length-take (omega (arith, c .before .be
 -- src/seconds_turn.rt:211:5
 some-seconds-requires : tie.Need-some-seconds-requires
 some-seconds-requires c κs =
-    let start = c .before .before .before .before .before .before .before .before .before .before .before in
+    let start = c .before .before .before .before .before .before .before .before .before .before .before .before in
     let b = c .before .before .before .before .batch .ensures in
     record { phase-is = start .pre .0; next-in = start .pre .1; written-in = start .pre .2; some = simp length-take (omega (arith, b)); want-left = simp length-take (omega (arith, b)); want-room = simp length-take (omega (arith, b)) }
 
@@ -87,6 +93,7 @@ seconds-turn-spec =
     with-phase-requires
     returns
     sub-room
+    least-room-requires
     waiting-requires
     returns-2
     batch-requires
