@@ -6,7 +6,9 @@ use native.Mathlib.Omega.{arith}
 use denote.Ref.{now}
 use lib.ListN.{length, getD, getD-replicate}
 use Rattle.dispatch.specs.QuietSecond.{Calm, Walkable}
-use Rattle.dispatch.proofs.QuietEnds.{none-ran, fewer, small-made, switchable-made, as-went}
+use Rattle.dispatch.specs.Lasting.{unmovedAll}
+use Rattle.dispatch.proofs.LastingLaws.{fewer}
+use Rattle.dispatch.proofs.QuietEnds.{none-ran, small-made, switchable-made, as-went}
 use Rattle.dispatch.proofs.quiet_seconds.quiet_seconds.Statement.{statement}
 use Rattle.dispatch.proofs.quiet_seconds.quiet_seconds.Tie as tie
 
@@ -36,13 +38,13 @@ quiet-walk-requires c κs =
     let calm = c .before .before .before .before .before .before .calm .ensures in (
       record {
         is-on = q .is-on ∙ c .before .before .before .before .before .before .before .before .before .before .before .before .before .before .pre .2 .is-on;
-        settled = c .before .before .before .before .before .before .before .before .before .before .before .before .before .before .pre .2 .settled;
+        unmoved = ap (unmovedAll _) (q .is-called) ∙ c .before .before .before .before .before .before .before .before .before .before .before .before .before .before .pre .2 .unmoved;
         file = c .before .before .before .before .before .before .before .before .before .before .before .before .before .before .pre .0 .file;
         was-possible = rw (none-ran (c .before .before .before .before .before .before .before .before .before .before .before .before .before .before .args .states) (c .before .before .before .before .kept .result .on) _ _ (eight (c .before .before .before .before .before .before .before .before .before .before .before .before .before .before)) (λ i l. getD-replicate 8 i 0 0 l) (λ i l. getD-replicate 8 i 0 0 l)) (c .before .before .before .before .before .before .before .before .before .before .before .before .before .before .pre .0 .was-possible);
-        called = c .before .before .before .before .before .before .before .before .before .before .before .before .before .before .pre .2 .called ∙ sym (q .is-on);
+        called = sym (c .before .before .before .before .before .before .before .before .before .before .before .before .before .before .pre .2 .is-called) ∙ sym (q .is-called);
         in-range = omega (arith, last .0, c .before .before .before .before .before .before .before .before .before .before .before .before .before .before .pre .0 .is-asked);
-        calm = λ ran l. record { is-on = q .is-on ∙ c .before .before .before .before .before .before .before .before .before .before .before .before .before .before .pre .2 .is-on; is-cap = q .is-cap; is-floor = q .is-floor; is-barred = q .is-barred; settled = c .before .before .before .before .before .before .before .before .before .before .before .before .before .before .pre .2 .settled; not-due = fewer _ _ _ (ran + 1) calm (omega (arith, l, last .2)) };
-        few = omega (arith, last .2, calm .most);
+        calm = λ ran l. record { is-on = q .is-on ∙ c .before .before .before .before .before .before .before .before .before .before .before .before .before .before .pre .2 .is-on; is-cap = q .is-cap; is-floor = q .is-floor; is-barred = q .is-barred; lasting = fewer _ _ _ (ran + 1) calm (omega (arith, l, last .2)) };
+        few = omega (arith, last .2, calm .each 0 (omega arith) .most);
         from-last = last .1;
         room = c .before .before .before .before .before .before .before .before .before .before .before .before .before .before .pre .0 .room;
         sixty = c .before .before .before .before .before .before .before .before .before .before .before .before .before .before .pre .0 .sixty;
@@ -59,13 +61,13 @@ slice-aggregate-made-2 : tie.Need-slice-aggregate-made-2
 slice-aggregate-made-2 c = search needs
 
 made-requires : tie.Need-made-requires
-made-requires c κs = record { small = small-made (c .before .before .before .before .before .before .before .before .before .before .before .before .before .before .before .before .before .before .before .before .before .before .before .before .args .st) (c .before .before .before .before .before .before .before .before .before .before .before .before .before .before .before .before .before .before .before .before .before .before .before .before .pre .0 .file) (c .before .before .before .before .before .before .before .before .before .before .before .before .before .before .before .before .before .before .before .before .before .before .before .before .args .states) (c .before .before .before .before .before .before .before .before .before .before .before .before .before .before .kept .result .on) (c .before .before .before .before .before .before .before .before .before .before .before .before .before .before .kept .ensures .is-on ∙ c .before .before .before .before .before .before .before .before .before .before .before .before .before .before .before .before .before .before .before .before .before .before .before .before .pre .2 .is-on) (c .before .before .before .before .before .before .before .before .before .before .before .before .before .before .before .before .before .before .before .before .before .before .before .before .pre .2 .settled) (c .before .before .before .before .before .before .before .before .before .quiet-walk .result .ran) (c .before .before .before .before .before .before .before .before .before .quiet-walk .last .1 .1 .1 .1 .1 .1 .1 .1 .1 .1 .1 .1 .0) (c .before .before .before .before .before .before .before .before .before .quiet-walk .last .1 .1 .1 .1 .1 .1 .1 .1 .1 .1 .1 .1 .1 .0) (c .before .before .before .before .before .before .before .before .before .quiet-walk .result .moment) (c .before .before .before .before .before .before .before .before .before .quiet-walk .last .1 .1 .1 .1 .1 .1 .1 .1 .1 .1 .1 .0) _ (c .before .before .before .before .before .before .before .before .before .quiet-walk .ensures .stays-possible); energies-length = c .before .before .before .before .before .before .before .before .before .quiet-walk .kept .1 .1 .1 .1 .1 .1 .1 .1 .1 .1 .1 .1 .0; fuels-length = c .before .before .before .before .before .before .before .before .before .quiet-walk .kept .1 .1 .1 .1 .1 .1 .1 .1 .1 .1 .1 .1 .1 .0 }
+made-requires c κs = record { small = small-made (c .before .before .before .before .before .before .before .before .before .before .before .before .before .before .before .before .before .before .before .before .before .before .before .before .args .st) (c .before .before .before .before .before .before .before .before .before .before .before .before .before .before .before .before .before .before .before .before .before .before .before .before .pre .0 .file) (c .before .before .before .before .before .before .before .before .before .before .before .before .before .before .before .before .before .before .before .before .before .before .before .before .args .states) (c .before .before .before .before .before .before .before .before .before .before .before .before .before .before .kept .result .on) (c .before .before .before .before .before .before .before .before .before .before .before .before .before .before .kept .ensures .is-on ∙ c .before .before .before .before .before .before .before .before .before .before .before .before .before .before .before .before .before .before .before .before .before .before .before .before .pre .2 .is-on) (c .before .before .before .before .before .before .before .before .before .quiet-walk .result .ran) (c .before .before .before .before .before .before .before .before .before .quiet-walk .last .1 .1 .1 .1 .1 .1 .1 .1 .1 .1 .1 .1 .0) (c .before .before .before .before .before .before .before .before .before .quiet-walk .last .1 .1 .1 .1 .1 .1 .1 .1 .1 .1 .1 .1 .1 .0) (c .before .before .before .before .before .before .before .before .before .quiet-walk .result .moment) (c .before .before .before .before .before .before .before .before .before .quiet-walk .last .1 .1 .1 .1 .1 .1 .1 .1 .1 .1 .1 .0) _ (c .before .before .before .before .before .before .before .before .before .quiet-walk .ensures .stays-possible); energies-length = c .before .before .before .before .before .before .before .before .before .quiet-walk .kept .1 .1 .1 .1 .1 .1 .1 .1 .1 .1 .1 .1 .0; fuels-length = c .before .before .before .before .before .before .before .before .before .quiet-walk .kept .1 .1 .1 .1 .1 .1 .1 .1 .1 .1 .1 .1 .1 .0 }
 
 mask-called-requires : tie.Need-mask-called-requires
 mask-called-requires c κs = search needs
 
 command-all-requires : tie.Need-command-all-requires
-command-all-requires c κs = rw (c .before .made .ensures) (switchable-made (c .before .before .before .before .before .before .before .before .before .before .before .before .before .before .before .before .before .before .before .before .before .before .before .before .before .before .args .st) (c .before .before .before .before .before .before .before .before .before .before .before .before .before .before .before .before .before .before .before .before .before .before .before .before .before .before .pre .0 .file) (c .before .before .before .before .before .before .before .before .before .before .before .before .before .before .before .before .before .before .before .before .before .before .before .before .before .before .args .states) (c .before .before .before .before .before .before .before .before .before .before .before .before .before .before .before .before .kept .result .on) (c .before .before .before .before .before .before .before .before .before .before .before .before .before .before .before .before .kept .ensures .is-on ∙ c .before .before .before .before .before .before .before .before .before .before .before .before .before .before .before .before .before .before .before .before .before .before .before .before .before .before .pre .2 .is-on) (c .before .before .before .before .before .before .before .before .before .before .before .before .before .before .before .before .before .before .before .before .before .before .before .before .before .before .pre .2 .settled) (c .before .before .before .before .before .before .before .before .before .before .before .quiet-walk .result .ran) (c .before .before .before .before .before .before .before .before .before .before .before .quiet-walk .last .1 .1 .1 .1 .1 .1 .1 .1 .1 .1 .1 .1 .0) (c .before .before .before .before .before .before .before .before .before .before .before .quiet-walk .last .1 .1 .1 .1 .1 .1 .1 .1 .1 .1 .1 .1 .1 .0) (c .before .before .before .before .before .before .before .before .before .before .before .quiet-walk .result .moment) (c .before .before .before .before .before .before .before .before .before .before .before .quiet-walk .last .1 .1 .1 .1 .1 .1 .1 .1 .1 .1 .1 .0) _ (c .before .before .before .before .before .before .before .before .before .before .before .quiet-walk .ensures .stays-possible))
+command-all-requires c κs = rw (c .before .made .ensures) (switchable-made (c .before .before .before .before .before .before .before .before .before .before .before .before .before .before .before .before .before .before .before .before .before .before .before .before .before .before .args .st) (c .before .before .before .before .before .before .before .before .before .before .before .before .before .before .before .before .before .before .before .before .before .before .before .before .before .before .pre .0 .file) (c .before .before .before .before .before .before .before .before .before .before .before .before .before .before .before .before .before .before .before .before .before .before .before .before .before .before .args .states) (c .before .before .before .before .before .before .before .before .before .before .before .before .before .before .before .before .kept .result .on) (c .before .before .before .before .before .before .before .before .before .before .before .before .before .before .before .before .kept .ensures .is-on ∙ c .before .before .before .before .before .before .before .before .before .before .before .before .before .before .before .before .before .before .before .before .before .before .before .before .before .before .pre .2 .is-on) (c .before .before .before .before .before .before .before .before .before .before .before .quiet-walk .result .ran) (c .before .before .before .before .before .before .before .before .before .before .before .quiet-walk .last .1 .1 .1 .1 .1 .1 .1 .1 .1 .1 .1 .1 .0) (c .before .before .before .before .before .before .before .before .before .before .before .quiet-walk .last .1 .1 .1 .1 .1 .1 .1 .1 .1 .1 .1 .1 .1 .0) (c .before .before .before .before .before .before .before .before .before .before .before .quiet-walk .result .moment) (c .before .before .before .before .before .before .before .before .before .before .before .quiet-walk .last .1 .1 .1 .1 .1 .1 .1 .1 .1 .1 .1 .0) _ (c .before .before .before .before .before .before .before .before .before .before .before .quiet-walk .ensures .stays-possible))
 
 same-length : tie.Need-same-length
 same-length c = search needs
