@@ -1,19 +1,18 @@
 -- Where quiet seconds begin, the states are the sets' own; where they end, what was added to them fits. Assumes nothing.
 use Prim.Native.Nat.{ℕ, zero, suc, _+_, _≤_, _<_}
-use mathlib.Core.Path.{_≡_, refl, sym, ap, _∙_}
+use mathlib.Core.Path.{_≡_, refl, sym, _∙_}
 use mathlib.Core.Bool.{Bool, true, false}
-use mathlib.Core.List.{List, [], _∷_}
+use mathlib.Core.List.{List}
 use native.Mathlib.Omega.{arith}
 use native.Mathlib.Numerals.{add-one}
-use lib.ListN.{length, getD, set}
+use lib.ListN.{length, getD}
 use lib.Seq.{set-getD}
 use Rattle.rules.specs.declared.station.GenSet.{GenSet}
 use Rattle.rules.specs.declared.station.Station.{Station}
 use Rattle.rules.specs.declared.run.Mode.{Mode}
 use Rattle.rules.specs.declared.run.Mode.the-variants.{Off, Warming, On, Cooling, Service}
-use Rattle.rules.specs.declared.run.Run.{Run}
 use Rattle.rules.specs.declared.run.SetState.{SetState}
-use Rattle.rules.specs.Numbers.{has, tab}
+use Rattle.rules.specs.Numbers.{has}
 use Rattle.rules.specs.StationRecord.{setAt, someFileGives}
 use Rattle.rules.specs.Modes.{fresh, stateAt, onMask}
 use Rattle.rules.specs.Commands.{commandFrom, command, everyOn, commandedAll}
@@ -25,7 +24,7 @@ use Rattle.dispatch.specs.declared.parts.Moment.{Moment}
 use Rattle.dispatch.specs.Going.{GoesOn}
 use Rattle.dispatch.specs.Parts.{runOf}
 use Rattle.dispatch.specs.Quiet.{ranFor, quietAt, sinceQuiet}
-use Rattle.dispatch.specs.Sized.{Small, Switchable, SwitchableAll}
+use Rattle.dispatch.specs.Sized.{Small, SwitchableAll}
 use Rattle.dispatch.proofs.LastingLaws.{none-waited}
 use Rattle.dispatch.proofs.QuietLaws.{tab-same, quiet-at}
 use Rattle.dispatch.proofs.Ready.{small-at}

@@ -3,16 +3,16 @@
 use Prim.Native.Nat.{ℕ, zero, suc, _+_, _≤_, _<_}
 use mathlib.Core.Path.{_≡_, refl, sym, ap, _∙_}
 use mathlib.Core.Bool.{Bool, true, false, not, _&&_, _||_}
-use mathlib.Core.List.{List, [], _∷_, _++_}
+use mathlib.Core.List.{List}
 use native.Mathlib.Omega.{arith}
 use native.Mathlib.Decide.{decLt}
 use lib.Dec.{leb, ltb}
-use lib.ListN.{length, getD}
-use borrow.Author.Tests.{lt-ltb, le-ltb, le-leb, lt-leb}
+use lib.ListN.{getD}
+use borrow.Author.Tests.{le-leb, lt-leb}
 use Rattle.rules.specs.declared.station.GenSet.{GenSet}
 use Rattle.rules.specs.declared.run.Mode.the-variants.{Off}
 use Rattle.rules.specs.declared.run.SetState.{SetState}
-use Rattle.rules.specs.Numbers.{if_then_else_, has, allTo, tab, maskOf}
+use Rattle.rules.specs.Numbers.{has, allTo, tab, maskOf}
 use Rattle.rules.specs.StationRecord.{setAt}
 use Rattle.rules.specs.Share.{share}
 use Rattle.rules.specs.Fuel.{fuelRate}

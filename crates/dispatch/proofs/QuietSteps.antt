@@ -16,21 +16,18 @@ use Rattle.rules.specs.declared.run.Inputs.{Inputs}
 use Rattle.rules.specs.declared.run.Run.{Run}
 use Rattle.rules.specs.declared.run.Totals.{Totals}
 use Rattle.rules.specs.declared.run.Watts.{Watts}
-use Rattle.rules.specs.Numbers.{if_then_else_, has}
-use Rattle.rules.specs.StationRecord.{setAt}
-use Rattle.rules.specs.Share.{capacity}
+use Rattle.rules.specs.Numbers.{has}
 use Rattle.rules.specs.Modes.{stateAt, isOn, ticked, onMask}
 use Rattle.rules.specs.Flows.{wattsFor, storeAfter, restOf, shedDecided}
 use Rattle.rules.specs.Commands.{countedAll}
 use Rattle.rules.specs.Setpoint.{wantedFor, heldAfter}
 use Rattle.rules.specs.Configuration.{chosen, sinceAfter}
-use Rattle.rules.specs.Second.{wattsNow, statesNow, onNow, callNow, plus, step}
+use Rattle.rules.specs.Second.{wattsNow, onNow, plus, step}
 use Rattle.rules.proofs.Shapes.{Tables}
 use Rattle.rules.proofs.StationFacts.{right-of, delay-range}
 use Rattle.laws.specs.Admitted.{Admitted}
 use Rattle.flows.specs.Amounts.{decidedIn}
 use Rattle.modes.specs.Barred.{barredMask}
-use Rattle.commitment.specs.Choice.{Rated}
 use Rattle.dispatch.specs.declared.commit.Committed.{Committed}
 use Rattle.dispatch.specs.declared.parts.Moment.{Moment}
 use Rattle.dispatch.specs.declared.quiet_step.Quiet.{Quiet}

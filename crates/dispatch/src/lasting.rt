@@ -30,7 +30,7 @@ fn due_after(interval: u32, clock: u32) -> usize
 }
 
 // How many seconds a set may go on before its mode ends or it is newly due.
-fn calm_for(genset: GenSet, state: SetState) -> usize
+fn lasts_for(genset: GenSet, state: SetState) -> usize
     ensures { λ r. ⌜ LastsFor genset state r ⌝ }
 {
     let mode = state.mode;
@@ -44,7 +44,7 @@ fn calm_for(genset: GenSet, state: SetState) -> usize
 }
 
 // How many seconds every set may.
-pub(crate) fn calm(sets: [GenSet; 8], states: [SetState; 8]) -> usize
+pub(crate) fn lasting(sets: [GenSet; 8], states: [SetState; 8]) -> usize
     ensures { λ r. ⌜ Lasting sets states r ⌝ }
 {
     let mut least = LONGEST;
@@ -53,7 +53,7 @@ pub(crate) fn calm(sets: [GenSet; 8], states: [SetState; 8]) -> usize
         let genset = sets[i];
         let state = states[i];
         i += 1;
-        let own = calm_for(genset, state);
+        let own = lasts_for(genset, state);
         if own < least {
             least = own;
         }

@@ -8,7 +8,7 @@ ghost use Rattle.dispatch.specs.Going.{GoesOn};
 ghost use Rattle.dispatch.specs.Parts.{runOf};
 ghost use Rattle.dispatch.specs.QuietSecond.{Kept, Following, Quietly};
 use crate::commands::command_all;
-use crate::lasting::calm;
+use crate::lasting::lasting;
 use crate::lasting::unmoved_all;
 use crate::parts::Moment;
 use crate::quiet::made;
@@ -83,7 +83,7 @@ fn quiet_seconds(
     let configs = st.configs;
     let mut energies = [0u64; 8];
     let mut fuels = [0u64; 8];
-    let last = last_quiet(asked, from, calm(sets, states));
+    let last = last_quiet(asked, from, lasting(sets, states));
     let quiet = kept(st, states, on, called);
     let walked = quiet_walk(
         st,

@@ -1,7 +1,5 @@
 -- `dispatch::lasting::counted_down` meets its contract, mode by mode. Assumes nothing.
 use borrow.Author.Needs.{needs}
-use mathlib.Core.Path.{ap, _∙_}
-use Rattle.rules.specs.declared.run.Mode.the-variants.{Warming, Cooling, Service}
 use Rattle.dispatch.specs.Lasting.{countedDown}
 use Rattle.dispatch.proofs.lasting.counted_down.Statement.{statement}
 use Rattle.dispatch.proofs.lasting.counted_down.Tie as tie

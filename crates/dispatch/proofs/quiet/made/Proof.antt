@@ -1,17 +1,16 @@
 -- `dispatch::quiet::made` meets its contract. Assumes nothing.
 use borrow.Author.Needs.{needs}
-use Prim.Native.Nat.{ℕ, _-_, _<_}
-use mathlib.Core.Path.{_≡_, sym, ap, _∙_}
-use mathlib.Core.Bool.{Bool, true, false}
+use Prim.Native.Nat.{ℕ, _-_}
+use mathlib.Core.Path.{_≡_, sym, _∙_}
+use mathlib.Core.Bool.{true, false}
 use mathlib.Core.List.{List}
 use native.Mathlib.Omega.{arith}
-use lib.ListN.{length, getD}
+use lib.ListN.{getD}
 use Rattle.rules.specs.declared.run.Mode.the-variants.{Off}
 use Rattle.rules.specs.declared.run.SetState.{SetState}
 use Rattle.rules.specs.Numbers.{has}
 use Rattle.rules.specs.Modes.{fresh, stateAt}
 use Rattle.modes.proofs.Filled.{Filling, filling-start, filling-at, filling-more, filling-whole}
-use Rattle.dispatch.specs.Sized.{Small}
 use Rattle.dispatch.specs.Lasting.{waited}
 use Rattle.dispatch.specs.Quiet.{ranFor, quietAt, sinceQuiet, Makeable}
 use Rattle.dispatch.proofs.quiet.made.Statement.{statement}

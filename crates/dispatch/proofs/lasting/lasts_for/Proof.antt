@@ -1,12 +1,12 @@
--- `dispatch::lasting::calm_for` meets its contract, mode by mode. Assumes nothing.
+-- `dispatch::lasting::lasts_for` meets its contract, mode by mode. Assumes nothing.
 use borrow.Author.Needs.{needs}
 use mathlib.Core.Path.{refl}
 use native.Mathlib.Omega.{arith}
 use Rattle.rules.specs.declared.run.Mode.the-variants.{Off, Warming, Cooling, Service}
 use Rattle.dispatch.specs.Lasting.{lasts}
 use Rattle.dispatch.proofs.LastingLaws.{idle-lasts, on-lasts}
-use Rattle.dispatch.proofs.lasting.calm_for.Statement.{statement}
-use Rattle.dispatch.proofs.lasting.calm_for.Tie as tie
+use Rattle.dispatch.proofs.lasting.lasts_for.Statement.{statement}
+use Rattle.dispatch.proofs.lasting.lasts_for.Tie as tie
 
 enum-told : tie.Need-enum-told
 enum-told c = search needs
@@ -63,8 +63,8 @@ returns-5 : tie.Need-returns-5
 unfolding lasts
 returns-5 c = idle-lasts _ _ (Service _) _ (c .before .before .mode3 .given .1) refl (omega (arith, c .left-after3 .ensures)) (omega (arith, c .left-after3 .ensures))
 
-pub calm-for-spec : {M : Type 1} → statement M
-calm-for-spec =
+pub lasts-for-spec : {M : Type 1} → statement M
+lasts-for-spec =
     tie.close
     (tie.spec
     enum-told

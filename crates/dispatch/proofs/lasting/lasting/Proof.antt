@@ -1,4 +1,4 @@
--- `dispatch::lasting::calm` meets its contract. Assumes nothing.
+-- `dispatch::lasting::lasting` meets its contract. Assumes nothing.
 use borrow.Author.Needs.{needs}
 use Prim.Native.Nat.{ℕ, _+_, _-_, _≤_, _<_}
 use mathlib.Core.Path.{_≡_}
@@ -11,8 +11,8 @@ use Rattle.rules.specs.StationRecord.{pastEnd, setAt}
 use Rattle.rules.specs.Modes.{stateAt}
 use Rattle.dispatch.specs.Lasting.{LastsFor}
 use Rattle.dispatch.proofs.LastingLaws.{fewer-lasts}
-use Rattle.dispatch.proofs.lasting.calm.Statement.{statement}
-use Rattle.dispatch.proofs.lasting.calm.Tie as tie
+use Rattle.dispatch.proofs.lasting.lasting.Statement.{statement}
+use Rattle.dispatch.proofs.lasting.lasting.Tie as tie
 
 -- of the sets before a place
 record LastingTo (i : ℕ) (sets : List GenSet) (states : List SetState) (seconds : ℕ) : Type 0 where
@@ -51,28 +51,28 @@ array-copy-out-state c = omega arith
 add-i : tie.Need-add-i Inv-loop μ-loop
 add-i c = omega arith
 
-calm-for-requires : tie.Need-calm-for-requires Inv-loop μ-loop
-calm-for-requires c κs = search needs
+lasts-for-requires : tie.Need-lasts-for-requires Inv-loop μ-loop
+lasts-for-requires c κs = search needs
 
 loop-less : tie.Need-loop-less Inv-loop μ-loop
 loop-less c = omega arith
 
 loop-again : tie.Need-loop-again Inv-loop μ-loop
 unfolding setAt stateAt pastEnd
-loop-again c = (omega arith, one-more _ _ _ _ _ (c .before .before .before .before .before .loop .inv .1) (omega arith) (c .before .calm-for .ensures))
+loop-again c = (omega arith, one-more _ _ _ _ _ (c .before .before .before .before .before .loop .inv .1) (omega arith) (c .before .lasts-for .ensures))
 
 loop-less-2 : tie.Need-loop-less-2 Inv-loop μ-loop
 loop-less-2 c = omega arith
 
 loop-again-2 : tie.Need-loop-again-2 Inv-loop μ-loop
 unfolding setAt stateAt pastEnd
-loop-again-2 c = (omega arith, one-more _ _ _ _ _ (c .before .before .before .before .before .loop .inv .1) (omega arith) (fewer-lasts _ _ _ _ (c .before .calm-for .ensures) (omega arith)))
+loop-again-2 c = (omega arith, one-more _ _ _ _ _ (c .before .before .before .before .before .loop .inv .1) (omega arith) (fewer-lasts _ _ _ _ (c .before .lasts-for .ensures) (omega arith)))
 
 returns : tie.Need-returns Inv-loop μ-loop
 returns c = let e : c .before .loop .i ≡ 8 = omega arith in record { each = λ j l. c .before .loop .inv .1 .each j (omega (arith, l)) }
 
-pub calm-spec : {M : Type 1} → statement M
-calm-spec =
+pub lasting-spec : {M : Type 1} → statement M
+lasting-spec =
     tie.close
     (tie.spec
     Inv-loop
@@ -83,7 +83,7 @@ calm-spec =
     mul-state
     array-copy-out-state
     add-i
-    calm-for-requires
+    lasts-for-requires
     loop-less
     loop-again
     loop-less-2
