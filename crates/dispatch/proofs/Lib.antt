@@ -1,5 +1,6 @@
 -- Laws by subject, and what the functions' proofs share.
 pub mod Ready
+pub mod LastingLaws
 pub mod QuietLaws
 pub mod Steps
 pub mod QuietSteps

@@ -1,19 +1,18 @@
 -- Where quiet seconds begin, the states are the sets' own; where they end, what was added to them fits. Assumes nothing.
 use Prim.Native.Nat.{ℕ, zero, suc, _+_, _≤_, _<_}
-use mathlib.Core.Path.{_≡_, refl, sym, ap, _∙_}
+use mathlib.Core.Path.{_≡_, refl, sym, _∙_}
 use mathlib.Core.Bool.{Bool, true, false}
-use mathlib.Core.List.{List, [], _∷_}
+use mathlib.Core.List.{List}
 use native.Mathlib.Omega.{arith}
 use native.Mathlib.Numerals.{add-one}
-use lib.ListN.{length, getD, set}
+use lib.ListN.{length, getD}
 use lib.Seq.{set-getD}
 use Rattle.rules.specs.declared.station.GenSet.{GenSet}
 use Rattle.rules.specs.declared.station.Station.{Station}
 use Rattle.rules.specs.declared.run.Mode.{Mode}
 use Rattle.rules.specs.declared.run.Mode.the-variants.{Off, Warming, On, Cooling, Service}
-use Rattle.rules.specs.declared.run.Run.{Run}
 use Rattle.rules.specs.declared.run.SetState.{SetState}
-use Rattle.rules.specs.Numbers.{has, tab}
+use Rattle.rules.specs.Numbers.{has}
 use Rattle.rules.specs.StationRecord.{setAt, someFileGives}
 use Rattle.rules.specs.Modes.{fresh, stateAt, onMask}
 use Rattle.rules.specs.Commands.{commandFrom, command, everyOn, commandedAll}
@@ -24,8 +23,9 @@ use Rattle.modes.proofs.Filled.{Filling, filling-start, filling-more, filling-w
 use Rattle.dispatch.specs.declared.parts.Moment.{Moment}
 use Rattle.dispatch.specs.Going.{GoesOn}
 use Rattle.dispatch.specs.Parts.{runOf}
-use Rattle.dispatch.specs.Quiet.{settledAll, NotDue, ranFor, quietAt, sinceQuiet}
-use Rattle.dispatch.specs.Sized.{Small, Switchable, SwitchableAll}
+use Rattle.dispatch.specs.Quiet.{ranFor, quietAt, sinceQuiet}
+use Rattle.dispatch.specs.Sized.{Small, SwitchableAll}
+use Rattle.dispatch.proofs.LastingLaws.{none-waited}
 use Rattle.dispatch.proofs.QuietLaws.{tab-same, quiet-at}
 use Rattle.dispatch.proofs.Ready.{small-at}
 
@@ -42,7 +42,7 @@ own-places base (suc n) size l =
 pub none-ran : (base : List SetState) (on : ℕ) (energies fuels : List ℕ) → length base ≡ 8 → ((i : ℕ) → i < 8 → getD energies i 0 ≡ 0) → ((i : ℕ) → i < 8 → getD fuels i 0 ≡ 0) → sinceQuiet base on 0 energies fuels ≡ base
 unfolding sinceQuiet quietAt
 none-ran base on energies fuels size e f =
-    tab-same _ (λ i. stateAt base i) 8 (λ i l. choice (λ (s : SetState). s ≡ stateAt base i) (has on i) _ _ (λ h. none i l) (λ h. refl))
+    tab-same _ (λ i. stateAt base i) 8 (λ i l. choice (λ (s : SetState). s ≡ stateAt base i) (has on i) _ _ (λ h. none i l) (λ h. none-waited (stateAt base i)))
     ∙ sym (filling-whole (λ i. stateAt base i) base 8 8 base (own-places base 8 size (omega arith)) (omega arith))
   where
     none : (i : ℕ) → i < 8 → ranFor (stateAt base i) 0 (getD energies i 0) (getD fuels i 0) ≡ stateAt base i
@@ -53,9 +53,6 @@ none-ran base on energies fuels size e f =
         let c : s .energy + 0 ≡ s .energy = omega arith in
         let d : s .fuel + 0 ≡ s .fuel = omega arith in
         rw (e i l, f i l, a, b, c, d)
-
-pub fewer : (sets : List GenSet) (states : List SetState) (most seconds : ℕ) → NotDue sets states most → seconds ≤ most → NotDue sets states seconds
-fewer sets states most seconds h l = record { most = omega (arith, h .most); each = λ i k on d. let e = h .each i k on d in omega arith }
 
 -- ---- the end
 
@@ -71,7 +68,7 @@ command-small g s false false On h = h
 command-small g s called release (Cooling n) h = h
 command-small g s called release (Service n) h = h
 
-module _ (st : Station) (given : someFileGives st ≡ true) (base : List SetState) (on : ℕ) (is-on : on ≡ onMask base) (settled : settledAll base ≡ true)
+module _ (st : Station) (given : someFileGives st ≡ true) (base : List SetState) (on : ℕ) (is-on : on ≡ onMask base)
     (ran : ℕ) (energies fuels : List ℕ) (moment : Moment) (decided : List ℕ) (mask : ℕ)
     (p : possible st (runOf moment (commandedAll (st .sets) (sinceQuiet base on ran energies fuels) mask) decided) ≡ true) where
   abbrev now : List SetState
@@ -87,7 +84,7 @@ module _ (st : Station) (given : someFileGives st ≡ true) (base : List SetStat
       (rw (commanded-at i l) at (small-at st given (runOf moment (commandedAll (st .sets) now mask) decided) p i l))
 
   pub small-made : (i : ℕ) → i < 8 → Small (quietAt base on ran energies fuels i)
-  small-made i l = rw (quiet-at (st .sets) base on is-on settled ran energies fuels i l) at (small-state i l)
+  small-made i l = rw (quiet-at (st .sets) base on is-on ran energies fuels i l) at (small-state i l)
 
   pub switchable-made : SwitchableAll now
   switchable-made = record { each = λ i l. record { starts-most = small-state i l .starts-most; stops-most = small-state i l .stops-most } }

@@ -1,31 +1,32 @@
--- Quiet seconds, set by set and by the tables: modes that tick stay, the mask of the sets On and that of the barred ones stay, the
--- counts are those beside the states, and commands to just the sets On change nothing. Assumes nothing.
+-- Quiet seconds by the tables of the sets: the mask of the sets On and that of the barred ones stay, the tick counts the modes down, the
+-- counts are those beside the states, and the commands change nothing. Assumes nothing.
 use Prim.Native.Nat.{ℕ, zero, suc, _+_, _≤_, _<_}
 use mathlib.Core.Path.{_≡_, refl, sym, ap, _∙_}
-use mathlib.Core.Bool.{Bool, true, false, _&&_, _||_}
-use mathlib.Core.List.{List, [], _∷_, _++_}
+use mathlib.Core.Bool.{Bool, true, false, not, _&&_, _||_}
+use mathlib.Core.List.{List}
 use native.Mathlib.Omega.{arith}
 use native.Mathlib.Decide.{decLt}
 use lib.Dec.{leb, ltb}
-use lib.ListN.{length, getD}
-use borrow.Author.Tests.{lt-ltb, le-ltb, le-leb, lt-leb}
+use lib.ListN.{getD}
+use borrow.Author.Tests.{le-leb, lt-leb}
 use Rattle.rules.specs.declared.station.GenSet.{GenSet}
-use Rattle.rules.specs.declared.run.Mode.{Mode}
-use Rattle.rules.specs.declared.run.Mode.the-variants.{Off, Warming, On, Cooling, Service}
+use Rattle.rules.specs.declared.run.Mode.the-variants.{Off}
 use Rattle.rules.specs.declared.run.SetState.{SetState}
-use Rattle.rules.specs.Numbers.{if_then_else_, has, tab, maskOf}
+use Rattle.rules.specs.Numbers.{has, allTo, tab, maskOf}
 use Rattle.rules.specs.StationRecord.{setAt}
 use Rattle.rules.specs.Share.{share}
 use Rattle.rules.specs.Fuel.{fuelRate}
-use Rattle.rules.specs.Modes.{fresh, stateAt, isOn, isOff, inService, due, tickFrom, tick, ticked, onMask}
+use Rattle.rules.specs.Modes.{fresh, stateAt, isOn, inService, due, tick, ticked, onMask}
 use Rattle.rules.specs.Commands.{counted, countedAll, commandFrom, command, everyOn, commandedAll}
 use Rattle.modes.specs.Barred.{barred, barredMask}
-use Rattle.rules.proofs.Tests.{never, to-at, choice}
+use Rattle.rules.proofs.Tests.{to-at, choice}
 use Rattle.rules.proofs.Tables.{tab-at}
 use Rattle.modes.proofs.MaskLaws.{mask-has}
-use Rattle.dispatch.specs.Quiet.{settledAll, NotDue, ranFor, quietAt, sinceQuiet, energyAt, fuelAt, energiesAfter, fuelsAfter}
+use Rattle.dispatch.specs.Lasting.{countedDown, waited, Lasting, unmoved, unmovedAll}
+use Rattle.dispatch.specs.Quiet.{ranFor, quietAt, sinceQuiet, energyAt, fuelAt, energiesAfter, fuelsAfter}
+use Rattle.dispatch.proofs.LastingLaws.{on-stays, service-stays, on-uncounted, tick-on, tick-waited, command-stays}
 
--- ---- tables and masks of the same places are the same
+-- ---- tables, masks and tests of the same places are the same
 
 pub tab-same : {A : Type 0} (f g : ℕ → A) (n : ℕ) → ((i : ℕ) → i < n → f i ≡ g i) → tab n f ≡ tab n g
 unfolding tab
@@ -41,25 +42,14 @@ mask-same p q (suc n) h =
     let before = mask-same p q n (λ i l. h i (omega arith)) in
     rw (before, h n (omega arith))
 
+all-same : (p q : ℕ → Bool) (n : ℕ) → ((i : ℕ) → i < n → p i ≡ q i) → allTo n p ≡ allTo n q
+unfolding allTo
+all-same p q zero h = refl
+all-same p q (suc n) h =
+    let before = all-same p q n (λ i l. h i (omega arith)) in
+    rw (before, h n (omega arith))
+
 -- ---- one set
-
--- a set that is On or Off does not tick
-tick-stays : (g : GenSet) (s : SetState) (m : Mode) → isOn m || isOff m ≡ true → tickFrom g s m ≡ s
-unfolding tickFrom
-tick-stays g s Off h = refl
-tick-stays g s (Warming n) h = never h
-tick-stays g s On h = refl
-tick-stays g s (Cooling n) h = never h
-tick-stays g s (Service n) h = never h
-
--- nor is it commanded, where just the sets On are called
-command-stays : (g : GenSet) (s : SetState) (release : Bool) (m : Mode) → isOn m || isOff m ≡ true → commandFrom g s (isOn m) release m ≡ s
-unfolding commandFrom
-command-stays g s release Off h = refl
-command-stays g s release (Warming n) h = never h
-command-stays g s release On h = refl
-command-stays g s release (Cooling n) h = never h
-command-stays g s release (Service n) h = never h
 
 counts-run : (g : GenSet) (s : SetState) (seconds energy fuel power : ℕ) → isOn (s .mode) ≡ true
     → counted g (ranFor s seconds energy fuel) power ≡ ranFor s (seconds + 1) (energy + power) (fuel + fuelRate g power)
@@ -90,12 +80,8 @@ due-stays g s seconds energy fuel h = go (decLt (s .clock) (g .interval))
 
 -- ---- all sets
 
-module _ (sets : List GenSet) (base : List SetState) (on : ℕ) (is-on : on ≡ onMask base) (settled : settledAll base ≡ true) where
-  calm-at : (i : ℕ) → i < 8 → isOn (stateAt base i .mode) || isOff (stateAt base i .mode) ≡ true
-  unfolding settledAll
-  calm-at i l = to-at (λ j. isOn (stateAt base j .mode) || isOff (stateAt base j .mode)) 8 settled i l
-
-  pub on-has : (i : ℕ) → i < 8 → has on i ≡ isOn (stateAt base i .mode)
+module _ (sets : List GenSet) (base : List SetState) (on : ℕ) (is-on : on ≡ onMask base) where
+  on-has : (i : ℕ) → i < 8 → has on i ≡ isOn (stateAt base i .mode)
   unfolding onMask
   on-has i l = ap (λ (m : ℕ). has m i) is-on ∙ mask-has (λ j. isOn (stateAt base j .mode)) 8 i l
 
@@ -110,76 +96,107 @@ module _ (sets : List GenSet) (base : List SetState) (on : ℕ) (is-on : on ≡ 
     unfolding stateAt sinceQuiet
     quiet-at i l = tab-at (quietAt base on seconds energies fuels) 8 i (fresh Off) l
 
-    mode-at : (i : ℕ) → at i .mode ≡ stateAt base i .mode
+    mode-at : (i : ℕ) → i < 8 → at i .mode ≡ countedDown (stateAt base i .mode) seconds
     unfolding quietAt
-    mode-at i = choice (λ (s : SetState). s .mode ≡ stateAt base i .mode) (has on i) _ _ (λ e. refl) (λ e. refl)
-
-    mode-now : (i : ℕ) → i < 8 → stateAt now i .mode ≡ stateAt base i .mode
-    mode-now i l = ap (λ (s : SetState). s .mode) (quiet-at i l) ∙ mode-at i
-
-    pub has-now : (i : ℕ) → i < 8 → has on i ≡ isOn (stateAt now i .mode)
-    has-now i l = on-has i l ∙ ap isOn (sym (mode-now i l))
-
-    pub quiet-on : on ≡ onMask now
-    unfolding onMask
-    quiet-on = is-on ∙ sym (mask-same (λ i. isOn (stateAt now i .mode)) (λ i. isOn (stateAt base i .mode)) 8 (λ i l. ap isOn (mode-now i l)))
-
-    pub quiet-ticked : now ≡ ticked sets now
-    unfolding ticked tick sinceQuiet
-    quiet-ticked =
-        let each : (i : ℕ) → i < 8 → at i ≡ tickFrom (setAt sets i) (stateAt now i) (stateAt now i .mode) =
-        λ i l. sym (tick-stays (setAt sets i) (stateAt now i) (stateAt now i .mode) (ap (λ (m : Mode). isOn m || isOff m) (mode-now i l) ∙ calm-at i l) ∙ quiet-at i l) in
-        tab-same (quietAt base on seconds energies fuels) (λ i. tickFrom (setAt sets i) (stateAt now i) (stateAt now i .mode)) 8 each
-
-    pub quiet-commanded : commandedAll sets now on ≡ now
-    unfolding commandedAll command sinceQuiet
-    quiet-commanded =
-        tab-same (λ i. commandFrom (setAt sets i) (stateAt now i) (has on i) (everyOn now on) (stateAt now i .mode)) (quietAt base on seconds energies fuels) 8
-        (λ i l. ap (λ (b : Bool). commandFrom (setAt sets i) (stateAt now i) b (everyOn now on) (stateAt now i .mode)) (on-has i l ∙ ap isOn (sym (mode-now i l)))
-        ∙ command-stays (setAt sets i) (stateAt now i) (everyOn now on) (stateAt now i .mode) (ap (λ (m : Mode). isOn m || isOff m) (mode-now i l) ∙ calm-at i l)
-        ∙ quiet-at i l)
-
-    barred-at : (i : ℕ) → i < 8 → NotDue sets base seconds → due (setAt sets i) (at i) ≡ due (setAt sets i) (stateAt base i)
-    unfolding quietAt
-    barred-at i l h =
-        choice (λ (s : SetState). due (setAt sets i) s ≡ due (setAt sets i) (stateAt base i)) (has on i) _ _
-        (λ e. due-stays (setAt sets i) (stateAt base i) seconds (getD energies i 0) (getD fuels i 0) (h .each i l (sym (on-has i l) ∙ e)))
+    mode-at i l =
+        choice (λ (s : SetState). s .mode ≡ countedDown (stateAt base i .mode) seconds) (has on i) _ _
+        (λ e. on-uncounted (stateAt base i .mode) seconds (sym (on-has i l) ∙ e))
         (λ e. refl)
 
-    pub quiet-barred : NotDue sets base seconds → barredMask sets base ≡ barredMask sets now
+    mode-now : (i : ℕ) → i < 8 → stateAt now i .mode ≡ countedDown (stateAt base i .mode) seconds
+    mode-now i l = ap (λ (s : SetState). s .mode) (quiet-at i l) ∙ mode-at i l
+
+    -- step 11
+
+    quiet-every : (mask : ℕ) → everyOn now mask ≡ everyOn base mask
+    unfolding everyOn
+    quiet-every mask =
+        all-same (λ i. not (has mask i) || isOn (stateAt now i .mode)) (λ i. not (has mask i) || isOn (stateAt base i .mode)) 8
+        (λ i l. ap (λ (b : Bool). not (has mask i) || b) (ap isOn (mode-now i l) ∙ on-stays (stateAt base i .mode) seconds))
+
+    pub quiet-commanded : (called : ℕ) → unmovedAll base called ≡ true → commandedAll sets now called ≡ now
+    unfolding commandedAll command sinceQuiet unmovedAll
+    quiet-commanded called h =
+        let left : (i : ℕ) → i < 8 → unmoved (stateAt base i .mode) (has called i) (everyOn now called) ≡ true =
+        λ i l. ap (λ (b : Bool). unmoved (stateAt base i .mode) (has called i) b) (quiet-every called) ∙ to-at (λ j. unmoved (stateAt base j .mode) (has called j) (everyOn base called)) 8 h i l in
+        tab-same (λ i. commandFrom (setAt sets i) (stateAt now i) (has called i) (everyOn now called) (stateAt now i .mode)) (quietAt base on seconds energies fuels) 8
+        (λ i l. command-stays (setAt sets i) (stateAt now i) (has called i) (everyOn now called) (stateAt base i .mode) seconds (mode-now i l) (left i l) ∙ quiet-at i l)
+
+    -- step 10
+
+    due-at : (i : ℕ) → i < 8 → Lasting sets base seconds → due (setAt sets i) (at i) ≡ due (setAt sets i) (stateAt base i)
+    unfolding quietAt due
+    due-at i l h =
+        choice (λ (s : SetState). due (setAt sets i) s ≡ due (setAt sets i) (stateAt base i)) (has on i) _ _
+        (λ e. due-stays (setAt sets i) (stateAt base i) seconds (getD energies i 0) (getD fuels i 0) (h .each i l .not-due (sym (on-has i l) ∙ e)))
+        (λ e. refl)
+
+    pub quiet-barred : Lasting sets base seconds → barredMask sets base ≡ barredMask sets now
     unfolding barredMask barred
     quiet-barred h =
         mask-same (λ i. due (setAt sets i) (stateAt base i) || inService (stateAt base i .mode)) (λ i. due (setAt sets i) (stateAt now i) || inService (stateAt now i .mode)) 8
         (λ i l. sym (
         ap (λ (s : SetState). due (setAt sets i) s || inService (stateAt now i .mode)) (quiet-at i l)
-        ∙ ap (λ (b : Bool). b || inService (stateAt now i .mode)) (barred-at i l h)
-        ∙ ap (λ (m : Mode). due (setAt sets i) (stateAt base i) || inService m) (mode-now i l)))
+        ∙ ap (λ (b : Bool). b || inService (stateAt now i .mode)) (due-at i l h)
+        ∙ ap (λ (b : Bool). due (setAt sets i) (stateAt base i) || b) (ap inService (mode-now i l) ∙ service-stays (stateAt base i .mode) seconds)))
 
-    -- one second more
-    module _ (diesel : ℕ) where
-      abbrev energies' : List ℕ
-      energies' = energiesAfter sets on diesel energies
+    -- one second more: steps 1, 2 and 8
+    module _ (lasting : Lasting sets base (seconds + 1)) where
+      abbrev later : List SetState
+      later = ticked sets now
 
-      abbrev fuels' : List ℕ
-      fuels' = fuelsAfter sets on diesel fuels
+      -- a set after the tick: a set On is as it was, and any other has waited a second more
+      later-is : (i : ℕ) → i < 8 → stateAt later i ≡ tick (setAt sets i) (at i)
+      unfolding stateAt ticked
+      later-is i l = tab-at (λ j. tick (setAt sets j) (stateAt now j)) 8 i (fresh Off) l ∙ ap (tick (setAt sets i)) (quiet-at i l)
 
-      energy-is : (i : ℕ) → i < 8 → getD energies' i 0 ≡ energyAt sets on diesel energies i
-      unfolding energiesAfter
-      energy-is i l = tab-at (energyAt sets on diesel energies) 8 i 0 l
+      pub later-on : (i : ℕ) → i < 8 → has on i ≡ true → stateAt later i ≡ ranFor (stateAt base i) seconds (getD energies i 0) (getD fuels i 0)
+      unfolding quietAt tick
+      later-on i l e =
+          later-is i l
+          ∙ (rw e (tick-on (setAt sets i) (ranFor (stateAt base i) seconds (getD energies i 0) (getD fuels i 0)) (stateAt base i .mode) (sym (on-has i l) ∙ e)))
 
-      fuel-is : (i : ℕ) → i < 8 → getD fuels' i 0 ≡ fuelAt sets on diesel fuels i
-      unfolding fuelsAfter
-      fuel-is i l = tab-at (fuelAt sets on diesel fuels) 8 i 0 l
+      later-waited : (i : ℕ) → i < 8 → has on i ≡ false → stateAt later i ≡ waited (stateAt base i) (seconds + 1)
+      unfolding quietAt
+      later-waited i l e = later-is i l ∙ (rw e (tick-waited (setAt sets i) (stateAt base i) seconds (lasting .each i l)))
 
-      more-at : (i : ℕ) → i < 8 → (b : Bool) → has on i ≡ b → counted (setAt sets i) (at i) (share sets on diesel i) ≡ quietAt base on (seconds + 1) energies' fuels' i
-      unfolding quietAt energyAt fuelAt
-      more-at i l true e =
-          rw (energy-is i l, fuel-is i l, e)
-          (counts-run (setAt sets i) (stateAt base i) seconds (getD energies i 0) (getD fuels i 0) (share sets on diesel i) (sym (on-has i l) ∙ e))
-      more-at i l false e = rw e (counts-idle (setAt sets i) (stateAt base i) (share sets on diesel i) (sym (on-has i l) ∙ e))
+      pub has-later : (i : ℕ) → i < 8 → has on i ≡ isOn (stateAt later i .mode)
+      has-later i l = go (has on i) refl
+        where
+          go : (b : Bool) → has on i ≡ b → has on i ≡ isOn (stateAt later i .mode)
+          go true e = on-has i l ∙ sym (ap (λ (s : SetState). isOn (s .mode)) (later-on i l e))
+          go false e = on-has i l ∙ sym (ap (λ (s : SetState). isOn (s .mode)) (later-waited i l e) ∙ on-stays (stateAt base i .mode) (seconds + 1))
 
-      pub quiet-counted : sinceQuiet base on (seconds + 1) energies' fuels' ≡ countedAll sets now on diesel
-      unfolding countedAll sinceQuiet
-      quiet-counted =
-          tab-same (quietAt base on (seconds + 1) energies' fuels') (λ i. counted (setAt sets i) (stateAt now i) (share sets on diesel i)) 8
-          (λ i l. sym (ap (λ (s : SetState). counted (setAt sets i) s (share sets on diesel i)) (quiet-at i l) ∙ more-at i l (has on i) refl))
+      pub quiet-on : on ≡ onMask later
+      unfolding onMask
+      quiet-on = is-on ∙ mask-same (λ i. isOn (stateAt base i .mode)) (λ i. isOn (stateAt later i .mode)) 8 (λ i l. sym (on-has i l) ∙ has-later i l)
+
+      module _ (diesel : ℕ) where
+        abbrev energies' : List ℕ
+        energies' = energiesAfter sets on diesel energies
+
+        abbrev fuels' : List ℕ
+        fuels' = fuelsAfter sets on diesel fuels
+
+        energy-is : (i : ℕ) → i < 8 → getD energies' i 0 ≡ energyAt sets on diesel energies i
+        unfolding energiesAfter
+        energy-is i l = tab-at (energyAt sets on diesel energies) 8 i 0 l
+
+        fuel-is : (i : ℕ) → i < 8 → getD fuels' i 0 ≡ fuelAt sets on diesel fuels i
+        unfolding fuelsAfter
+        fuel-is i l = tab-at (fuelAt sets on diesel fuels) 8 i 0 l
+
+        more-at : (i : ℕ) → i < 8 → (b : Bool) → has on i ≡ b → counted (setAt sets i) (stateAt later i) (share sets on diesel i) ≡ quietAt base on (seconds + 1) energies' fuels' i
+        unfolding quietAt energyAt fuelAt
+        more-at i l true e =
+            rw (later-on i l e, energy-is i l, fuel-is i l, e)
+            (counts-run (setAt sets i) (stateAt base i) seconds (getD energies i 0) (getD fuels i 0) (share sets on diesel i) (sym (on-has i l) ∙ e))
+        more-at i l false e =
+            rw (later-waited i l e, e)
+            (counts-idle (setAt sets i) (waited (stateAt base i) (seconds + 1)) (share sets on diesel i) (on-stays (stateAt base i .mode) (seconds + 1) ∙ sym (on-has i l) ∙ e))
+
+        pub quiet-counted : sinceQuiet base on (seconds + 1) energies' fuels' ≡ countedAll sets later on diesel
+        unfolding countedAll sinceQuiet
+        quiet-counted =
+            tab-same (quietAt base on (seconds + 1) energies' fuels') (λ i. counted (setAt sets i) (stateAt later i) (share sets on diesel i)) 8
+            (λ i l. sym (more-at i l (has on i) refl))

@@ -16,42 +16,35 @@ use Rattle.rules.specs.declared.run.Inputs.{Inputs}
 use Rattle.rules.specs.declared.run.Run.{Run}
 use Rattle.rules.specs.declared.run.Totals.{Totals}
 use Rattle.rules.specs.declared.run.Watts.{Watts}
-use Rattle.rules.specs.Numbers.{if_then_else_, has}
-use Rattle.rules.specs.StationRecord.{setAt}
-use Rattle.rules.specs.Share.{capacity}
+use Rattle.rules.specs.Numbers.{has}
 use Rattle.rules.specs.Modes.{stateAt, isOn, ticked, onMask}
 use Rattle.rules.specs.Flows.{wattsFor, storeAfter, restOf, shedDecided}
 use Rattle.rules.specs.Commands.{countedAll}
 use Rattle.rules.specs.Setpoint.{wantedFor, heldAfter}
 use Rattle.rules.specs.Configuration.{chosen, sinceAfter}
-use Rattle.rules.specs.Second.{wattsNow, statesNow, onNow, callNow, plus, step}
+use Rattle.rules.specs.Second.{wattsNow, onNow, plus, step}
 use Rattle.rules.proofs.Shapes.{Tables}
 use Rattle.rules.proofs.StationFacts.{right-of, delay-range}
 use Rattle.laws.specs.Admitted.{Admitted}
 use Rattle.flows.specs.Amounts.{decidedIn}
 use Rattle.modes.specs.Barred.{barredMask}
-use Rattle.commitment.specs.Choice.{Rated}
 use Rattle.dispatch.specs.declared.commit.Committed.{Committed}
 use Rattle.dispatch.specs.declared.parts.Moment.{Moment}
 use Rattle.dispatch.specs.declared.quiet_step.Quiet.{Quiet}
 use Rattle.dispatch.specs.declared.supply.Supplied.{Supplied}
 use Rattle.dispatch.specs.Commit.{CommittedNow}
 use Rattle.dispatch.specs.Parts.{runOf}
-use Rattle.dispatch.specs.Quiet.{quietAt, sinceQuiet, energiesAfter, fuelsAfter, Addable}
+use Rattle.dispatch.specs.Quiet.{ranFor, sinceQuiet, energiesAfter, fuelsAfter, Addable}
 use Rattle.dispatch.specs.QuietSecond.{Calm, quietAfter}
 use Rattle.dispatch.specs.Sized.{Small, CountableAll, Wantable, SmallTotals}
 use Rattle.dispatch.specs.Supply.{SuppliedNow}
-use Rattle.dispatch.proofs.QuietLaws.{quiet-at, has-now, quiet-on, quiet-ticked, quiet-barred, quiet-counted}
+use Rattle.dispatch.proofs.QuietLaws.{quiet-barred, later-on, has-later, quiet-on, quiet-counted}
 use Rattle.dispatch.proofs.Ready.{countable, wantable, call-most, totals-small}
 use Rattle.dispatch.proofs.Steps.{states-now, on-now, watts-now, decided-now, store-now, ran-now, call-now, step-now}
 
--- what a set of the mask has beside it is no more than its counts
-beside-small : (base : List SetState) (on ran : ℕ) (energies fuels : List ℕ) (i : ℕ) → has on i ≡ true → Small (quietAt base on ran energies fuels i)
-    → (getD energies i 0 ≤ 3_162_240_000_000_000) × (getD fuels i 0 ≤ 4_743_360_000_000_000_000)
-unfolding quietAt
-beside-small base on ran energies fuels i e h =
-    let s = rw e at h in
-    (omega (arith, s .energy-most), omega (arith, s .fuel-most))
+-- what a set On has beside it is no more than its counts
+beside-small : (s : SetState) (seconds energy fuel : ℕ) → Small (ranFor s seconds energy fuel) → (energy ≤ 3_162_240_000_000_000) × (fuel ≤ 4_743_360_000_000_000_000)
+beside-small s seconds energy fuel h = (omega (arith, h .energy-most), omega (arith, h .fuel-most))
 
 as-counted : (sets : List GenSet) (s s' : List SetState) (m m' d d' : ℕ) → s ≡ s' → m ≡ m' → d ≡ d' → CountableAll sets s' m' d' → CountableAll sets s m d
 as-counted sets s s' m m' d d' a b c h = rw (a, b, c) h
@@ -64,46 +57,45 @@ module _ (st : Station) (tables : Tables st) (base : List SetState) (q : Quiet) 
   abbrev r : Run
   r = runOf moment now decided
 
-  still : now ≡ ticked (st .sets) now
-  still = quiet-ticked (st .sets) base (q .on) (calm .is-on) (calm .settled) ran energies fuels
+  -- the sets after the tick
+  abbrev later : List SetState
+  later = ticked (st .sets) now
 
-  mask-is : q .on ≡ onMask now
-  mask-is = quiet-on (st .sets) base (q .on) (calm .is-on) (calm .settled) ran energies fuels
-
-  states-is : now ≡ statesNow st r
-  states-is = states-now st r x now still (q .on) mask-is (q .cap) (calm .is-cap) (q .floor) (calm .is-floor)
+  mask-is : q .on ≡ onMask later
+  mask-is = quiet-on (st .sets) base (q .on) (calm .is-on) ran energies fuels (calm .lasting)
 
   on-is : q .on ≡ onNow st r
-  on-is = on-now st r x now still (q .on) mask-is (q .cap) (calm .is-cap) (q .floor) (calm .is-floor)
-
-  pub small-now : (i : ℕ) → i < 8 → Small (quietAt base (q .on) ran energies fuels i)
-  small-now i l =
-      let c : CountableAll (st .sets) now (q .on) (wattsNow st r x .diesel) = as-counted _ _ _ _ _ _ _ states-is on-is refl (countable st tables r x h) in
-      rw (quiet-at (st .sets) base (q .on) (calm .is-on) (calm .settled) ran energies fuels i l) at (c .small i l)
+  on-is = on-now st r x later refl (q .on) mask-is (q .cap) (calm .is-cap) (q .floor) (calm .is-floor)
 
   pub small-totals : SmallTotals (moment .totals)
   small-totals = totals-small st tables r x h
 
   module _ (w : Watts) (met : w ≡ wattsFor (st .battery) (moment .store) (q .cap) (q .floor) (getD decided 0 0) x) where
     watts-is : w ≡ wattsNow st r x
-    watts-is = watts-now st r x now still (q .on) mask-is (q .cap) (calm .is-cap) (q .floor) (calm .is-floor) w met
+    watts-is = watts-now st r x later refl (q .on) mask-is (q .cap) (calm .is-cap) (q .floor) (calm .is-floor) w met
 
-    countable-now : CountableAll (st .sets) now (q .on) (w .diesel)
-    countable-now = as-counted _ _ _ _ _ _ _ states-is on-is (ap (λ (z : Watts). z .diesel) watts-is) (countable st tables r x h)
+    countable-now : CountableAll (st .sets) later (q .on) (w .diesel)
+    countable-now = as-counted _ _ _ _ _ _ _ (states-now st r x later refl (q .on) mask-is (q .cap) (calm .is-cap) (q .floor) (calm .is-floor)) on-is (ap (λ (z : Watts). z .diesel) watts-is) (countable st tables r x h)
+
+    -- what stands beside a set On
+    beside : (i : ℕ) → i < 8 → has (q .on) i ≡ true → (getD energies i 0 ≤ 3_162_240_000_000_000) × (getD fuels i 0 ≤ 4_743_360_000_000_000_000)
+    beside i l on =
+        beside-small (stateAt base i) ran (getD energies i 0) (getD fuels i 0)
+        (rw (later-on (st .sets) base (q .on) (calm .is-on) ran energies fuels (calm .lasting) i l on) at (countable-now .small i l))
 
     pub addable : length energies ≡ 8 → length fuels ≡ 8 → Addable (st .sets) (q .on) (w .diesel) (q .cap) energies fuels
     addable e f =
         let c = countable-now in
-        let shown : (i : ℕ) → i < 8 → has (q .on) i ≡ true → isOn (stateAt now i .mode) ≡ true =
-        λ i l on. sym (has-now (st .sets) base (q .on) (calm .is-on) (calm .settled) ran energies fuels i l) ∙ on in
+        let shown : (i : ℕ) → i < 8 → has (q .on) i ≡ true → isOn (stateAt later i .mode) ≡ true =
+        λ i l on. sym (has-later (st .sets) base (q .on) (calm .is-on) ran energies fuels (calm .lasting) i l) ∙ on in
         record {
           is-cap = calm .is-cap;
           capacity-most = c .capacity-most;
           diesel-most = c .diesel-most;
           numbers = λ i l on. c .numbers i l (shown i l on);
           pairs = λ i l on. c .pairs i l (shown i l on);
-          energies-most = λ i l on. beside-small base (q .on) ran energies fuels i on (small-now i l) .0;
-          fuels-most = λ i l on. beside-small base (q .on) ran energies fuels i on (small-now i l) .1;
+          energies-most = λ i l on. beside i l on .0;
+          fuels-most = λ i l on. beside i l on .1;
           energies-length = e;
           fuels-length = f;
         }
@@ -130,17 +122,17 @@ module _ (st : Station) (tables : Tables st) (base : List SetState) (q : Quiet) 
 
       supplied-now : SuppliedNow st r x (wattsNow st r x) supplied amounts
       supplied-now =
-          let counted : ran' ≡ countedAll (st .sets) now (q .on) (w .diesel) = rw (added, burned) (quiet-counted (st .sets) base (q .on) (calm .is-on) (calm .settled) ran energies fuels (w .diesel)) in
+          let counted : ran' ≡ countedAll (st .sets) later (q .on) (w .diesel) = rw (added, burned) (quiet-counted (st .sets) base (q .on) (calm .is-on) ran energies fuels (calm .lasting) (w .diesel)) in
           record {
-            states = ran-now st r x now still (q .on) mask-is (q .cap) (calm .is-cap) (q .floor) (calm .is-floor) w met ran' counted;
+            states = ran-now st r x later refl (q .on) mask-is (q .cap) (calm .is-cap) (q .floor) (calm .is-floor) w met ran' counted;
             on = on-is;
             watts = watts-is;
-            store = store-now st r x now still (q .on) mask-is (q .cap) (calm .is-cap) (q .floor) (calm .is-floor) w met store stored;
-            amounts = decided-now st r x now still (q .on) mask-is (q .cap) (calm .is-cap) (q .floor) (calm .is-floor) w met new amounts (delay-range (st .setcount) (st .control) (right-of st (h .station-given) .control) .0) sheds size moves;
+            store = store-now st r x later refl (q .on) mask-is (q .cap) (calm .is-cap) (q .floor) (calm .is-floor) w met store stored;
+            amounts = decided-now st r x later refl (q .on) mask-is (q .cap) (calm .is-cap) (q .floor) (calm .is-floor) w met new amounts (delay-range (st .setcount) (st .control) (right-of st (h .station-given) .control) .0) sheds size moves;
           }
 
       barred-is : q .barred ≡ barredMask (st .sets) ran'
-      barred-is = calm .is-barred ∙ quiet-barred (st .sets) base (q .on) (calm .is-on) (calm .settled) (ran + 1) adds burns (calm .not-due)
+      barred-is = calm .is-barred ∙ quiet-barred (st .sets) base (q .on) (calm .is-on) (ran + 1) adds burns (calm .lasting)
 
       committed-now : CommittedNow st ran' (moment .setpoint) wanted (moment .called) (moment .since) (moment .done) committed
       committed-now = record { held = holds; call = calls ran' barred-is; states-commanded = refl }

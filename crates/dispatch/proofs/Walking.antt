@@ -25,7 +25,8 @@ use Rattle.dispatch.specs.declared.quiet_step.Quiet.{Quiet}
 use Rattle.dispatch.specs.declared.quiet_second.QuietJudged.{QuietJudged}
 use Rattle.dispatch.specs.Going.{Going, GoesOn}
 use Rattle.dispatch.specs.Parts.{runOf}
-use Rattle.dispatch.specs.Quiet.{settledAll, sinceQuiet}
+use Rattle.dispatch.specs.Lasting.{unmovedAll}
+use Rattle.dispatch.specs.Quiet.{sinceQuiet}
 use Rattle.dispatch.specs.QuietSecond.{quietAfter, leftBy, quietHanded}
 use Rattle.dispatch.specs.Seconds.{inputsOf}
 use Rattle.dispatch.proofs.Going.{back-is, inputsAt, Written, row-means, refusal-means, goes}
@@ -45,20 +46,20 @@ module _ (st : Station) (base : List SetState) (q : Quiet) (ran : ℕ) (energies
   pub refused-run : (why : Refusal) → j .answer ≡ Refused why → quietHanded st base q ran energies fuels decided j .run ≡ runOf (j .moment) (sinceQuiet base (q .on) ran energies fuels) decided
   refused-run why e = ap (λ (a : Outcome). runOf (j .moment) (leftBy a (quietAfter st base (q .on) ran energies fuels (j .moment .called)) (sinceQuiet base (q .on) ran energies fuels)) decided) e
 
--- commands to just the sets On change nothing
-module _ (st : Station) (base : List SetState) (on : ℕ) (is-on : on ≡ onMask base) (settled : settledAll base ≡ true) where
-  pub stays-quiet : (ran : ℕ) (energies fuels : List ℕ) (called : ℕ) → maskCalled (st .configs) called ≡ on
-      → commandedAll (st .sets) (sinceQuiet base on ran energies fuels) (maskCalled (st .configs) called) ≡ sinceQuiet base on ran energies fuels
+-- commands that leave the sets as they are at the start change nothing
+module _ (st : Station) (base : List SetState) (q : Quiet) (is-on : q .on ≡ onMask base) (unmoved : unmovedAll base (q .called) ≡ true) where
+  pub stays-quiet : (ran : ℕ) (energies fuels : List ℕ) (called : ℕ) → maskCalled (st .configs) called ≡ q .called
+      → commandedAll (st .sets) (sinceQuiet base (q .on) ran energies fuels) (maskCalled (st .configs) called) ≡ sinceQuiet base (q .on) ran energies fuels
   stays-quiet ran energies fuels called e =
-      ap (commandedAll (st .sets) (sinceQuiet base on ran energies fuels)) e ∙ quiet-commanded (st .sets) base on is-on settled ran energies fuels
+      ap (commandedAll (st .sets) (sinceQuiet base (q .on) ran energies fuels)) e ∙ quiet-commanded (st .sets) base (q .on) is-on ran energies fuels (q .called) unmoved
 
   -- a refused second leaves the record as it was
-  pub as-it-was : (moment handed : Moment) (ran : ℕ) (energies fuels decided energies' fuels' decided' : List ℕ) → maskCalled (st .configs) (moment .called) ≡ on
-      → runOf handed (sinceQuiet base on ran energies' fuels') decided' ≡ runOf moment (sinceQuiet base on ran energies fuels) decided
-      → runOf moment (commandedAll (st .sets) (sinceQuiet base on ran energies' fuels') (maskCalled (st .configs) (moment .called))) decided' ≡ runOf moment (sinceQuiet base on ran energies fuels) decided
+  pub as-it-was : (moment handed : Moment) (ran : ℕ) (energies fuels decided energies' fuels' decided' : List ℕ) → maskCalled (st .configs) (moment .called) ≡ q .called
+      → runOf handed (sinceQuiet base (q .on) ran energies' fuels') decided' ≡ runOf moment (sinceQuiet base (q .on) ran energies fuels) decided
+      → runOf moment (commandedAll (st .sets) (sinceQuiet base (q .on) ran energies' fuels') (maskCalled (st .configs) (moment .called))) decided' ≡ runOf moment (sinceQuiet base (q .on) ran energies fuels) decided
   as-it-was moment handed ran energies fuels decided energies' fuels' decided' e same =
       ap (λ (s : List SetState). runOf moment s decided') (stays-quiet ran energies' fuels' (moment .called) e ∙ ap (λ (z : Run). z .sets) same)
-      ∙ ap (λ (d : List ℕ). runOf moment (sinceQuiet base on ran energies fuels) d) (ap (λ (z : Run). z .decided) same)
+      ∙ ap (λ (d : List ℕ). runOf moment (sinceQuiet base (q .on) ran energies fuels) d) (ap (λ (z : Run). z .decided) same)
 
 -- ---- the loop
 

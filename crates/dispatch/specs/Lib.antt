@@ -1,6 +1,7 @@
 -- What the steps inside a second may take for granted, and many seconds in one call.
 pub mod Sized
 pub mod Parts
+pub mod Lasting
 pub mod Quiet
 pub mod Supply
 pub mod Commit

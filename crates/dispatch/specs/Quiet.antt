@@ -1,28 +1,19 @@
--- Quiet seconds: every set is On or Off and the configuration called has just the sets On, so that the steps 1 and 11 of document 01
--- change nothing, and step 8 adds to the counts of the sets On alone. What they add stands beside the states as they were.
+-- Quiet seconds: no set changes its mode, so that step 1 of document 01 counts the timed modes down, step 8 adds to the counts of the
+-- sets On alone, and step 11 changes nothing. What is added stands beside the states as they were.
 use Prim.Native.Nat.{ℕ, _+_, _≤_, _<_}
 use mathlib.Core.Path.{_≡_}
-use mathlib.Core.Bool.{Bool, true, _||_}
+use mathlib.Core.Bool.{true}
 use mathlib.Core.List.{List}
 use lib.ListN.{length, getD}
 use Rattle.rules.specs.declared.station.GenSet.{GenSet}
 use Rattle.rules.specs.declared.run.SetState.{SetState}
-use Rattle.rules.specs.Numbers.{if_then_else_, has, allTo, tab}
+use Rattle.rules.specs.Numbers.{if_then_else_, has, tab}
 use Rattle.rules.specs.StationRecord.{setAt, setRight, pairsRight}
 use Rattle.rules.specs.Share.{capacity, share}
 use Rattle.rules.specs.Fuel.{fuelRate}
-use Rattle.rules.specs.Modes.{stateAt, isOn, isOff}
+use Rattle.rules.specs.Modes.{stateAt}
+use Rattle.dispatch.specs.Lasting.{waited}
 use Rattle.dispatch.specs.Sized.{Small}
-
--- every set is On or Off
-unfoldable pub settledAll : List SetState → Bool
-settledAll states = allTo 8 (λ i. isOn (stateAt states i .mode) || isOff (stateAt states i .mode))
-
--- no set On comes to its service interval within so many seconds; one that is due stays so
-pub record NotDue (sets : List GenSet) (states : List SetState) (seconds : ℕ) : Type 0 where
-  pub most : seconds ≤ 4_294_967_295
-  pub each : (i : ℕ) → i < 8 → isOn (stateAt states i .mode) ≡ true → stateAt states i .clock < setAt sets i .interval
-      → stateAt states i .clock + seconds < setAt sets i .interval
 
 -- a set On after some seconds, with the energy and the fuel that they added
 abbrev pub ranFor : SetState → ℕ → ℕ → ℕ → SetState
@@ -40,7 +31,7 @@ ranFor s seconds energy fuel =
 -- the sets after some quiet seconds, where the mask has the sets On
 unfoldable pub quietAt : List SetState → ℕ → ℕ → List ℕ → List ℕ → ℕ → SetState
 quietAt base on seconds energies fuels i =
-    if has on i then ranFor (stateAt base i) seconds (getD energies i 0) (getD fuels i 0) else stateAt base i
+    if has on i then ranFor (stateAt base i) seconds (getD energies i 0) (getD fuels i 0) else waited (stateAt base i) seconds
 
 unfoldable pub sinceQuiet : List SetState → ℕ → ℕ → List ℕ → List ℕ → List SetState
 sinceQuiet base on seconds energies fuels = tab 8 (quietAt base on seconds energies fuels)

@@ -24,16 +24,16 @@ use Rattle.dispatch.specs.declared.quiet_second.QuietJudged.{QuietJudged
 use Rattle.dispatch.specs.declared.parts.Moment.{Moment}
 use Rattle.dispatch.specs.Parts.{runOf}
 use Rattle.dispatch.specs.Seconds.{inputsOf}
-use Rattle.dispatch.specs.Quiet.{settledAll, NotDue, sinceQuiet}
+use Rattle.dispatch.specs.Lasting.{Lasting, unmovedAll}
+use Rattle.dispatch.specs.Quiet.{sinceQuiet}
 
--- the sets are On or Off and none is newly due after one second more, and what is kept of them is theirs
+-- one second more ends no set's mode and makes none newly due, and what is kept of the sets is theirs
 pub record Calm (st : Station) (base : List SetState) (q : Quiet) (ran : ℕ) : Type 0 where
   pub is-on : q .on ≡ onMask base
   pub is-cap : q .cap ≡ capacity (st .sets) (q .on)
   pub is-floor : q .floor ≡ percent (q .cap) (st .control .minload)
   pub is-barred : q .barred ≡ barredMask (st .sets) base
-  pub settled : settledAll base ≡ true
-  pub not-due : NotDue (st .sets) base (ran + 1)
+  pub lasting : Lasting (st .sets) base (ran + 1)
 
 -- the sets after a quiet second and its commands
 abbrev pub quietAfter : Station → List SetState → ℕ → ℕ → List ℕ → List ℕ → ℕ → List SetState
@@ -60,10 +60,10 @@ quietHanded st base q ran energies fuels decided j =
 -- what a walk over quiet seconds may take for granted, of the places from `from` to `last`
 pub record Walkable (st : Station) (base : List SetState) (q : Quiet) (m : Moment) (loads solars sheddables : List ℕ) (last from lent : ℕ) (decided energies fuels rows : List ℕ) : Type 0 where
   pub is-on : q .on ≡ onMask base
-  pub settled : settledAll base ≡ true
+  pub unmoved : unmovedAll base (q .called) ≡ true
   pub file : someFileGives st ≡ true
   pub was-possible : possible st (runOf m (sinceQuiet base (q .on) 0 energies fuels) decided) ≡ true
-  pub called : maskCalled (st .configs) (m .called) ≡ q .on
+  pub called : maskCalled (st .configs) (m .called) ≡ q .called
   pub in-range : last ≤ length (inputsOf loads solars sheddables)
   pub calm : (ran : ℕ) → from + ran < last → Calm st base q ran
   pub few : last ≤ from + 4_294_967_295
@@ -73,9 +73,10 @@ pub record Walkable (st : Station) (base : List SetState) (q : Quiet) (m : Momen
   pub energies-length : length energies ≡ 8
   pub fuels-length : length fuels ≡ 8
 
--- what is kept of the sets, where the mask has those On
-pub record Kept (st : Station) (base : List SetState) (on : ℕ) (q : Quiet) : Type 0 where
+-- what is kept of the sets, where one mask has those On and another those called
+pub record Kept (st : Station) (base : List SetState) (on called : ℕ) (q : Quiet) : Type 0 where
   pub is-on : q .on ≡ on
+  pub is-called : q .called ≡ called
   pub is-cap : q .cap ≡ capacity (st .sets) (q .on)
   pub is-floor : q .floor ≡ percent (q .cap) (st .control .minload)
   pub is-barred : q .barred ≡ barredMask (st .sets) base
@@ -89,8 +90,8 @@ pub record Following (st : Station) (states : List SetState) (m : Moment) (loads
   pub room : at ≤ length rows
   pub sixty : length decided ≡ 60
 
--- the sets are On or Off, and just those On are called
-pub record Quietly (st : Station) (states : List SetState) (on : ℕ) (m : Moment) : Type 0 where
+-- the mask has the sets On, and commands to those called leave every set as it is
+pub record Quietly (st : Station) (states : List SetState) (on called : ℕ) (m : Moment) : Type 0 where
   pub is-on : on ≡ onMask states
-  pub settled : settledAll states ≡ true
-  pub called : maskCalled (st .configs) (m .called) ≡ on
+  pub is-called : called ≡ maskCalled (st .configs) (m .called)
+  pub unmoved : unmovedAll states called ≡ true

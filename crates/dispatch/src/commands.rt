@@ -87,7 +87,7 @@ pub(crate) fn has_set(mask: u32, place: usize) -> bool
 }
 
 // "every called set is On"
-fn every_on(states: [SetState; 8], mask: u32) -> bool
+pub(crate) fn every_on(states: [SetState; 8], mask: u32) -> bool
     ensures { λ r. ⌜ r ≡ everyOn states mask ⌝ }
 {
     let mut ok = true;

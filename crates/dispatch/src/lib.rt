@@ -2,6 +2,7 @@
 mod commands;
 mod commit;
 mod counts;
+mod lasting;
 mod parts;
 mod quiet;
 mod quiet_second;

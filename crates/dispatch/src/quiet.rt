@@ -1,68 +1,18 @@
-// Quiet seconds: every set is On or Off and the configuration called has just the sets On, so that only the counts of the sets On
-// move. Their states stand as they were, and what is added to them since stands beside them.
+// Quiet seconds: no set changes its mode, so that only the counts of the sets On and the timed modes' counts move. The sets' states
+// stand as they were, and what is added to the sets On since stands beside them.
 ghost use mathlib.Core.Path.{_≡_};
 ghost use mathlib.Core.Bool.{true};
-ghost use Prim.Native.Nat.{_+_, _*_, _≤_, _<_};
+ghost use Prim.Native.Nat.{_≤_};
 ghost use Rattle.rules.specs.StationRecord.{setRight, pairsRight};
 ghost use Rattle.rules.specs.Fuel.{fuelRate};
-ghost use Rattle.rules.specs.Modes.{isOn};
 ghost use Rattle.dispatch.specs.Sized.{Small};
-ghost use Rattle.dispatch.specs.Quiet.{settledAll, NotDue, ranFor, sinceQuiet, energiesAfter, fuelsAfter, Addable, Makeable};
+ghost use Rattle.dispatch.specs.Quiet.{ranFor, sinceQuiet, energiesAfter, fuelsAfter, Addable, Makeable};
 use crate::commands::has_set;
+use crate::lasting::waited;
 use gensets::fuel::fuel_rate;
-use modes::mode::is_off;
-use modes::mode::is_on;
 use rules::answers::Amount;
 use rules::run::SetState;
 use rules::station::GenSet;
-
-// Whether every set is On or Off.
-pub(crate) fn settled(states: [SetState; 8]) -> bool
-    ensures { λ r. ⌜ r ≡ settledAll states ⌝ }
-{
-    let mut ok = true;
-    let mut i: usize = 0;
-    while i < 8 {
-        let state = states[i];
-        let mode = state.mode;
-        ok = ok & (is_on(mode) | is_off(mode));
-        i += 1;
-    }
-    ok
-}
-
-// How many seconds a set On may run before it is due; one that is due stays so, and one without an interval never is.
-fn calm_for(genset: GenSet, state: SetState) -> usize
-    ensures { λ r. ⌜ (r ≤ 4_294_967_295) × (isOn (state .mode) ≡ true → state .clock < genset .interval → state .clock + r < genset .interval) ⌝ }
-{
-    let mode = state.mode;
-    if !is_on(mode) {
-        return 4_294_967_295;
-    }
-    if genset.interval <= state.clock {
-        return 4_294_967_295;
-    }
-    let left = genset.interval - state.clock;
-    (left - 1) as usize
-}
-
-// How many seconds every set On may run before another is due.
-pub(crate) fn calm(sets: [GenSet; 8], states: [SetState; 8]) -> usize
-    ensures { λ r. ⌜ NotDue sets states r ⌝ }
-{
-    let mut least: usize = 4_294_967_295;
-    let mut i: usize = 0;
-    while i < 8 {
-        let genset = sets[i];
-        let state = states[i];
-        i += 1;
-        let own = calm_for(genset, state);
-        if own < least {
-            least = own;
-        }
-    }
-    least
-}
 
 // What a set burns in a second at a power.
 fn burned(genset: GenSet, power: u32) -> u64
@@ -142,9 +92,11 @@ pub(crate) fn made(
     while i < 8 {
         let at = i;
         i += 1;
+        let state = out[at];
         if has_set(mask, at) {
-            let state = out[at];
             out[at] = ran_for(state, seconds, energies[at], fuels[at]);
+        } else {
+            out[at] = waited(state, seconds);
         }
     }
     out

@@ -8,10 +8,10 @@ ghost use Rattle.dispatch.specs.Going.{GoesOn};
 ghost use Rattle.dispatch.specs.Parts.{runOf};
 ghost use Rattle.dispatch.specs.QuietSecond.{Kept, Following, Quietly};
 use crate::commands::command_all;
+use crate::lasting::lasting;
+use crate::lasting::unmoved_all;
 use crate::parts::Moment;
-use crate::quiet::calm;
 use crate::quiet::made;
-use crate::quiet::settled;
 use crate::quiet_step::Quiet;
 use crate::quiet_walk::quiet_walk;
 use commitment::configuration::mask_called;
@@ -43,27 +43,29 @@ fn last_quiet(asked: usize, from: usize, most: usize) -> usize
 }
 
 // What stays the same while no set changes its mode.
-fn kept(st: Station, states: [SetState; 8], on: u32) -> Quiet
+fn kept(st: Station, states: [SetState; 8], on: u32, called: u32) -> Quiet
     requires { ⌜ someFileGives st ≡ true ⌝ }
-    ensures { λ r. ⌜ Kept st states on r ⌝ }
+    ensures { λ r. ⌜ Kept st states on called r ⌝ }
 {
     let sets = st.sets;
     let control = st.control;
     let cap = capacity(sets, on) as u32;
     Quiet {
         on,
+        called,
         cap,
         floor: floor_load(control, cap),
         barred: barred_mask(sets, states),
     }
 }
 
-// The quiet seconds of sets that are On or Off, of which just those On are called.
+// The quiet seconds of sets that the commands leave as they are.
 fn quiet_seconds(
     st: Station,
     caps: &[u32; 64],
     states: [SetState; 8],
     on: u32,
+    called: u32,
     moment: Moment,
     loads: &[u32],
     solars: &[u32],
@@ -74,15 +76,15 @@ fn quiet_seconds(
     decided: &mut [u32],
     rows: &mut [u8],
 ) -> Went
-    requires { ⌜ Following st states moment (now loads) (now solars) (now sheddables) asked from at (now decided) (now rows) × Rated (st .sets) (st .configs) (now caps) × Quietly st states on moment ⌝ }
+    requires { ⌜ Following st states moment (now loads) (now solars) (now sheddables) asked from at (now decided) (now rows) × Rated (st .sets) (st .configs) (now caps) × Quietly st states on called moment ⌝ }
     ensures { λ r. ⌜ GoesOn st (now (loads .entry)) (now (solars .entry)) (now (sheddables .entry)) (now (rows .entry)) (runOf moment states (now (decided .entry))) at from (now (rows .exit)) (runOf (r .moment) (r .states) (now (decided .exit))) (r .at) (r .next) ⌝ }
 {
     let sets = st.sets;
     let configs = st.configs;
     let mut energies = [0u64; 8];
     let mut fuels = [0u64; 8];
-    let last = last_quiet(asked, from, calm(sets, states));
-    let quiet = kept(st, states, on);
+    let last = last_quiet(asked, from, lasting(sets, states));
+    let quiet = kept(st, states, on, called);
     let walked = quiet_walk(
         st,
         caps,
@@ -110,7 +112,7 @@ fn quiet_seconds(
     }
 }
 
-// Those that follow a second: none, where a set is neither On nor Off or where other sets are called.
+// Those that follow a second: none, where commands would change a set.
 pub(crate) fn following(
     st: Station,
     caps: &[u32; 64],
@@ -129,16 +131,8 @@ pub(crate) fn following(
     ensures { λ r. ⌜ GoesOn st (now (loads .entry)) (now (solars .entry)) (now (sheddables .entry)) (now (rows .entry)) (runOf moment states (now (decided .entry))) at from (now (rows .exit)) (runOf (r .moment) (r .states) (now (decided .exit))) (r .at) (r .next) ⌝ }
 {
     let configs = st.configs;
-    let on = on_mask(states);
-    if mask_called(configs, moment.called) != on {
-        return Went {
-            moment,
-            states,
-            at,
-            next: from,
-        };
-    }
-    if !settled(states) {
+    let called = mask_called(configs, moment.called);
+    if !unmoved_all(states, called) {
         return Went {
             moment,
             states,
@@ -150,7 +144,8 @@ pub(crate) fn following(
         st,
         caps,
         states,
-        on,
+        on_mask(states),
+        called,
         moment,
         loads,
         solars,

@@ -22,9 +22,11 @@ use rules::run::Row;
 use rules::run::SetState;
 use rules::station::Station;
 
-// What stays the same while no set changes its mode: the mask of the sets On, their capacity and floor load, and the sets that are due.
+// What stays the same while no set changes its mode: the masks of the sets On and of those called, the capacity and the floor load of
+// the sets On, and the sets that are due or in service.
 pub(crate) struct Quiet {
     pub(crate) on: u32,
+    pub(crate) called: u32,
     pub(crate) cap: u32,
     pub(crate) floor: u64,
     pub(crate) barred: u32,

@@ -1,4 +1,4 @@
-// Quiet seconds one after the other, up to the first that is refused or changes the sets.
+// Quiet seconds one after the other, up to the first that is refused or calls other sets.
 ghost use Rattle.rules.specs.Configuration.{maskCalled};
 ghost use Rattle.rules.specs.Commands.{commandedAll};
 ghost use Rattle.commitment.specs.Choice.{Rated};
@@ -74,7 +74,7 @@ pub(crate) fn quiet_walk(
                 at += size;
                 next += 1;
                 ran += 1;
-                if mask_called(configs, moment.called) != quiet.on {
+                if mask_called(configs, moment.called) != quiet.called {
                     return Walked {
                         moment,
                         at,

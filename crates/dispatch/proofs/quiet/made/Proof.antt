@@ -1,18 +1,17 @@
 -- `dispatch::quiet::made` meets its contract. Assumes nothing.
 use borrow.Author.Needs.{needs}
-use Prim.Native.Nat.{ℕ, _-_, _<_}
-use mathlib.Core.Path.{_≡_, sym, ap, _∙_}
-use mathlib.Core.Bool.{Bool, true, false}
+use Prim.Native.Nat.{ℕ, _-_}
+use mathlib.Core.Path.{_≡_, sym, _∙_}
+use mathlib.Core.Bool.{true, false}
 use mathlib.Core.List.{List}
 use native.Mathlib.Omega.{arith}
-use lib.ListN.{length, getD}
-use lib.Seq.{set-getD}
+use lib.ListN.{getD}
 use Rattle.rules.specs.declared.run.Mode.the-variants.{Off}
 use Rattle.rules.specs.declared.run.SetState.{SetState}
 use Rattle.rules.specs.Numbers.{has}
 use Rattle.rules.specs.Modes.{fresh, stateAt}
 use Rattle.modes.proofs.Filled.{Filling, filling-start, filling-at, filling-more, filling-whole}
-use Rattle.dispatch.specs.Sized.{Small}
+use Rattle.dispatch.specs.Lasting.{waited}
 use Rattle.dispatch.specs.Quiet.{ranFor, quietAt, sinceQuiet, Makeable}
 use Rattle.dispatch.proofs.quiet.made.Statement.{statement}
 use Rattle.dispatch.proofs.quiet.made.Tie as tie
@@ -22,7 +21,7 @@ has-run : (base : List SetState) (on seconds : ℕ) (energies fuels : List ℕ) 
 unfolding quietAt
 has-run base on seconds energies fuels i e = rw e
 
-has-not : (base : List SetState) (on seconds : ℕ) (energies fuels : List ℕ) (i : ℕ) → has on i ≡ false → quietAt base on seconds energies fuels i ≡ stateAt base i
+has-not : (base : List SetState) (on seconds : ℕ) (energies fuels : List ℕ) (i : ℕ) → has on i ≡ false → quietAt base on seconds energies fuels i ≡ waited (stateAt base i) seconds
 unfolding quietAt
 has-not base on seconds energies fuels i e = rw e
 
@@ -33,15 +32,10 @@ abbrev μ-loop : tie.MeasureT-loop
 μ-loop mask seconds energies fuels out₀ i₀ out i = 8 - i
 
 loop-holds : tie.Need-loop-holds Inv-loop μ-loop
-loop-holds c =
-    let start = c .before .before in
-    (start .pre, filling-start _ _ 8 (search needs))
+loop-holds c = (c .before .before .pre, filling-start _ _ 8 (search needs))
 
 add-i : tie.Need-add-i Inv-loop μ-loop
 add-i c = omega arith
-
-has-set-requires : tie.Need-has-set-requires Inv-loop μ-loop
-has-set-requires c κs = search needs
 
 mul-state : tie.Need-mul-state Inv-loop μ-loop
 mul-state c = omega arith
@@ -49,25 +43,27 @@ mul-state c = omega arith
 array-copy-out-state : tie.Need-array-copy-out-state Inv-loop μ-loop
 array-copy-out-state c = omega arith
 
+has-set-requires : tie.Need-has-set-requires Inv-loop μ-loop
+has-set-requires c κs = search needs
+
 mul-ran-for : tie.Need-mul-ran-for Inv-loop μ-loop
 mul-ran-for c = omega arith
 
 shared-slice-read-ran-for : tie.Need-shared-slice-read-ran-for Inv-loop μ-loop
-shared-slice-read-ran-for c = let at = c .before .before .before .before .before in omega (arith, at .loop .inv .0 .energies-length)
+shared-slice-read-ran-for c = omega (arith, c .before .before .before .before .before .loop .inv .0 .energies-length)
 
 mul-ran-for-2 : tie.Need-mul-ran-for-2 Inv-loop μ-loop
 mul-ran-for-2 c = omega arith
 
 shared-slice-read-ran-for-2 : tie.Need-shared-slice-read-ran-for-2 Inv-loop μ-loop
-shared-slice-read-ran-for-2 c = let at = c .before .before .before .before .before .before in omega (arith, at .loop .inv .0 .fuels-length)
+shared-slice-read-ran-for-2 c = omega (arith, c .before .before .before .before .before .before .loop .inv .0 .fuels-length)
 
 ran-for-requires : tie.Need-ran-for-requires Inv-loop μ-loop
 unfolding stateAt
 ran-for-requires c κs =
-    let at = c .before .before .before .before .before .before in
-    let on = sym (c .before .before .before .before .has-set .ensures) ∙ c .before .before .before .if1 .taken in
-    let own = filling-at _ _ 8 (at .loop .i) _ (at .loop .inv .1) (fresh Off) in
-    rw (own, ← has-run _ _ _ _ _ (at .loop .i) on) (at .loop .inv .0 .small (at .loop .i) (search needs))
+    let on = sym (c .before .before .before .has-set .ensures) ∙ c .before .before .if1 .taken in
+    let own = filling-at _ _ 8 (c .before .before .before .before .before .before .loop .i) _ (c .before .before .before .before .before .before .loop .inv .1) (fresh Off) in
+    rw (own, ← has-run _ _ _ _ _ (c .before .before .before .before .before .before .loop .i) on) (c .before .before .before .before .before .before .loop .inv .0 .small (c .before .before .before .before .before .before .loop .i) (search needs))
 
 mul-out : tie.Need-mul-out Inv-loop μ-loop
 mul-out c = omega arith
@@ -81,10 +77,18 @@ loop-less c = omega arith
 loop-again : tie.Need-loop-again Inv-loop μ-loop
 unfolding stateAt
 loop-again c =
-    let at = c .before .before .before .before .before .before .before in
-    let on = sym (c .before .before .before .before .before .has-set .ensures) ∙ c .before .before .before .before .if1 .taken in
-    let own = filling-at _ _ 8 (at .loop .i) _ (at .loop .inv .1) (fresh Off) in
-    (at .loop .inv .0, filling-more _ _ 8 (at .loop .i) _ (at .loop .inv .1) (search needs) _ (c .ran-for .ensures ∙ rw (own, has-run _ _ _ _ _ (at .loop .i) on)))
+    let on = sym (c .before .before .before .before .has-set .ensures) ∙ c .before .before .before .if1 .taken in
+    let own = filling-at _ _ 8 (c .before .before .before .before .before .before .before .loop .i) _ (c .before .before .before .before .before .before .before .loop .inv .1) (fresh Off) in
+    (c .before .before .before .before .before .before .before .loop .inv .0, filling-more _ _ 8 (c .before .before .before .before .before .before .before .loop .i) _ (c .before .before .before .before .before .before .before .loop .inv .1) (search needs) _ (c .ran-for .ensures ∙ rw (own, has-run _ _ _ _ _ (c .before .before .before .before .before .before .before .loop .i) on)))
+
+waited-requires : tie.Need-waited-requires Inv-loop μ-loop
+waited-requires c κs = search needs
+
+mul-out-2 : tie.Need-mul-out-2 Inv-loop μ-loop
+mul-out-2 c = omega arith
+
+array-set-from-out-2 : tie.Need-array-set-from-out-2 Inv-loop μ-loop
+array-set-from-out-2 c = omega arith
 
 loop-less-2 : tie.Need-loop-less-2 Inv-loop μ-loop
 loop-less-2 c = omega arith
@@ -92,9 +96,9 @@ loop-less-2 c = omega arith
 loop-again-2 : tie.Need-loop-again-2 Inv-loop μ-loop
 unfolding stateAt
 loop-again-2 c =
-    let at = c .before .before .before in
-    let own = filling-at _ _ 8 (at .loop .i) _ (at .loop .inv .1) (fresh Off) in
-    (at .loop .inv .0, rw set-getD at (filling-more _ _ 8 (at .loop .i) _ (at .loop .inv .1) (search needs) _ (own ∙ sym (has-not _ _ _ _ _ (at .loop .i) (sym (c .before .has-set .ensures) ∙ c .if1 .left)))))
+    let off = sym (c .before .before .has-set .ensures) ∙ c .before .if1 .left in
+    let own = filling-at _ _ 8 (c .before .before .before .before .before .loop .i) _ (c .before .before .before .before .before .loop .inv .1) (fresh Off) in
+    (c .before .before .before .before .before .loop .inv .0, filling-more _ _ 8 (c .before .before .before .before .before .loop .i) _ (c .before .before .before .before .before .loop .inv .1) (search needs) _ (c .waited .ensures ∙ rw (own, has-not _ _ _ _ _ (c .before .before .before .before .before .loop .i) off)))
 
 returns : tie.Need-returns Inv-loop μ-loop
 unfolding sinceQuiet
@@ -108,9 +112,9 @@ made-spec =
     μ-loop
     loop-holds
     add-i
-    has-set-requires
     mul-state
     array-copy-out-state
+    has-set-requires
     mul-ran-for
     shared-slice-read-ran-for
     mul-ran-for-2
@@ -120,6 +124,9 @@ made-spec =
     array-set-from-out
     loop-less
     loop-again
+    waited-requires
+    mul-out-2
+    array-set-from-out-2
     loop-less-2
     loop-again-2
     returns)

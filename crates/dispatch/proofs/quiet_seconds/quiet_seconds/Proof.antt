@@ -1,12 +1,12 @@
 -- `dispatch::quiet_seconds::quiet_seconds` meets its contract. Assumes nothing.
 use borrow.Author.Needs.{needs}
-use Prim.Native.Nat.{ℕ, _+_, _≤_, _<_}
-use mathlib.Core.Path.{_≡_, refl, sym, ap, _∙_}
+use Prim.Native.Nat.{_+_}
+use mathlib.Core.Path.{_≡_, sym, ap, _∙_}
 use native.Mathlib.Omega.{arith}
-use denote.Ref.{now}
-use lib.ListN.{length, getD, getD-replicate}
-use Rattle.dispatch.specs.QuietSecond.{Calm, Walkable}
-use Rattle.dispatch.proofs.QuietEnds.{none-ran, fewer, small-made, switchable-made, as-went}
+use lib.ListN.{length, getD-replicate}
+use Rattle.dispatch.specs.Lasting.{unmovedAll}
+use Rattle.dispatch.proofs.LastingLaws.{fewer}
+use Rattle.dispatch.proofs.QuietEnds.{none-ran, small-made, switchable-made, as-went}
 use Rattle.dispatch.proofs.quiet_seconds.quiet_seconds.Statement.{statement}
 use Rattle.dispatch.proofs.quiet_seconds.quiet_seconds.Tie as tie
 
@@ -14,8 +14,8 @@ use Rattle.dispatch.proofs.quiet_seconds.quiet_seconds.Tie as tie
 eight : (c : tie.Start) → length (c .args .states) ≡ 8
 eight c = c .good .1 .1 .0 .1 .0 .1
 
-calm-requires : tie.Need-calm-requires
-calm-requires c κs = search needs
+lasting-requires : tie.Need-lasting-requires
+lasting-requires c κs = search needs
 
 last-quiet-requires : tie.Need-last-quiet-requires
 last-quiet-requires c κs = search needs
@@ -31,25 +31,26 @@ slice-aggregate-quiet-walk-2 c = search needs
 
 quiet-walk-requires : tie.Need-quiet-walk-requires
 quiet-walk-requires c κs =
+    let start = c .before .before .before .before .before .before .before .before .before .before .before .before .before .before in
     let q = c .before .before .before .before .kept .ensures in
     let last = c .before .before .before .before .before .last-quiet .ensures in
-    let calm = c .before .before .before .before .before .before .calm .ensures in (
+    let lasts = c .before .before .before .before .before .before .lasting .ensures in (
       record {
-        is-on = q .is-on ∙ c .before .before .before .before .before .before .before .before .before .before .before .before .before .before .pre .2 .is-on;
-        settled = c .before .before .before .before .before .before .before .before .before .before .before .before .before .before .pre .2 .settled;
-        file = c .before .before .before .before .before .before .before .before .before .before .before .before .before .before .pre .0 .file;
-        was-possible = rw (none-ran (c .before .before .before .before .before .before .before .before .before .before .before .before .before .before .args .states) (c .before .before .before .before .kept .result .on) _ _ (eight (c .before .before .before .before .before .before .before .before .before .before .before .before .before .before)) (λ i l. getD-replicate 8 i 0 0 l) (λ i l. getD-replicate 8 i 0 0 l)) (c .before .before .before .before .before .before .before .before .before .before .before .before .before .before .pre .0 .was-possible);
-        called = c .before .before .before .before .before .before .before .before .before .before .before .before .before .before .pre .2 .called ∙ sym (q .is-on);
-        in-range = omega (arith, last .0, c .before .before .before .before .before .before .before .before .before .before .before .before .before .before .pre .0 .is-asked);
-        calm = λ ran l. record { is-on = q .is-on ∙ c .before .before .before .before .before .before .before .before .before .before .before .before .before .before .pre .2 .is-on; is-cap = q .is-cap; is-floor = q .is-floor; is-barred = q .is-barred; settled = c .before .before .before .before .before .before .before .before .before .before .before .before .before .before .pre .2 .settled; not-due = fewer _ _ _ (ran + 1) calm (omega (arith, l, last .2)) };
-        few = omega (arith, last .2, calm .most);
+        is-on = q .is-on ∙ start .pre .2 .is-on;
+        unmoved = ap (unmovedAll (start .args .states)) (q .is-called) ∙ start .pre .2 .unmoved;
+        file = start .pre .0 .file;
+        was-possible = rw (none-ran (start .args .states) (c .before .before .before .before .kept .result .on) _ _ (eight start) (λ i l. getD-replicate 8 i 0 0 l) (λ i l. getD-replicate 8 i 0 0 l)) (start .pre .0 .was-possible);
+        called = sym (start .pre .2 .is-called) ∙ sym (q .is-called);
+        in-range = omega (arith, last .0, start .pre .0 .is-asked);
+        calm = λ ran l. record { is-on = q .is-on ∙ start .pre .2 .is-on; is-cap = q .is-cap; is-floor = q .is-floor; is-barred = q .is-barred; lasting = fewer _ _ _ (ran + 1) lasts (omega (arith, l, last .2)) };
+        few = omega (arith, last .2, lasts .each 0 (omega arith) .most);
         from-last = last .1;
-        room = c .before .before .before .before .before .before .before .before .before .before .before .before .before .before .pre .0 .room;
-        sixty = c .before .before .before .before .before .before .before .before .before .before .before .before .before .before .pre .0 .sixty;
+        room = start .pre .0 .room;
+        sixty = start .pre .0 .sixty;
         energies-length = search needs;
         fuels-length = search needs;
       },
-      c .before .before .before .before .before .before .before .before .before .before .before .before .before .before .pre .1,
+      start .pre .1,
     )
 
 slice-aggregate-made : tie.Need-slice-aggregate-made
@@ -59,13 +60,21 @@ slice-aggregate-made-2 : tie.Need-slice-aggregate-made-2
 slice-aggregate-made-2 c = search needs
 
 made-requires : tie.Need-made-requires
-made-requires c κs = record { small = small-made (c .before .before .before .before .before .before .before .before .before .before .before .before .before .before .before .before .before .before .before .before .before .before .before .before .args .st) (c .before .before .before .before .before .before .before .before .before .before .before .before .before .before .before .before .before .before .before .before .before .before .before .before .pre .0 .file) (c .before .before .before .before .before .before .before .before .before .before .before .before .before .before .before .before .before .before .before .before .before .before .before .before .args .states) (c .before .before .before .before .before .before .before .before .before .before .before .before .before .before .kept .result .on) (c .before .before .before .before .before .before .before .before .before .before .before .before .before .before .kept .ensures .is-on ∙ c .before .before .before .before .before .before .before .before .before .before .before .before .before .before .before .before .before .before .before .before .before .before .before .before .pre .2 .is-on) (c .before .before .before .before .before .before .before .before .before .before .before .before .before .before .before .before .before .before .before .before .before .before .before .before .pre .2 .settled) (c .before .before .before .before .before .before .before .before .before .quiet-walk .result .ran) (c .before .before .before .before .before .before .before .before .before .quiet-walk .last .1 .1 .1 .1 .1 .1 .1 .1 .1 .1 .1 .1 .0) (c .before .before .before .before .before .before .before .before .before .quiet-walk .last .1 .1 .1 .1 .1 .1 .1 .1 .1 .1 .1 .1 .1 .0) (c .before .before .before .before .before .before .before .before .before .quiet-walk .result .moment) (c .before .before .before .before .before .before .before .before .before .quiet-walk .last .1 .1 .1 .1 .1 .1 .1 .1 .1 .1 .1 .0) _ (c .before .before .before .before .before .before .before .before .before .quiet-walk .ensures .stays-possible); energies-length = c .before .before .before .before .before .before .before .before .before .quiet-walk .kept .1 .1 .1 .1 .1 .1 .1 .1 .1 .1 .1 .1 .0; fuels-length = c .before .before .before .before .before .before .before .before .before .quiet-walk .kept .1 .1 .1 .1 .1 .1 .1 .1 .1 .1 .1 .1 .1 .0 }
+made-requires c κs =
+    let walking = c .before .before .before .before .before .before .before .before .before in
+    let keeping = walking .before .before .before .before .before in
+    let start = keeping .before .before .before .before .before .before .before .before .before .before in
+    record { small = small-made (start .args .st) (start .pre .0 .file) (start .args .states) (keeping .kept .result .on) (keeping .kept .ensures .is-on ∙ start .pre .2 .is-on) (walking .quiet-walk .result .ran) (walking .quiet-walk .last .1 .1 .1 .1 .1 .1 .1 .1 .1 .1 .1 .1 .0) (walking .quiet-walk .last .1 .1 .1 .1 .1 .1 .1 .1 .1 .1 .1 .1 .1 .0) (walking .quiet-walk .result .moment) (walking .quiet-walk .last .1 .1 .1 .1 .1 .1 .1 .1 .1 .1 .1 .0) _ (walking .quiet-walk .ensures .stays-possible); energies-length = walking .quiet-walk .kept .1 .1 .1 .1 .1 .1 .1 .1 .1 .1 .1 .1 .0; fuels-length = walking .quiet-walk .kept .1 .1 .1 .1 .1 .1 .1 .1 .1 .1 .1 .1 .1 .0 }
 
 mask-called-requires : tie.Need-mask-called-requires
 mask-called-requires c κs = search needs
 
 command-all-requires : tie.Need-command-all-requires
-command-all-requires c κs = rw (c .before .made .ensures) (switchable-made (c .before .before .before .before .before .before .before .before .before .before .before .before .before .before .before .before .before .before .before .before .before .before .before .before .before .before .args .st) (c .before .before .before .before .before .before .before .before .before .before .before .before .before .before .before .before .before .before .before .before .before .before .before .before .before .before .pre .0 .file) (c .before .before .before .before .before .before .before .before .before .before .before .before .before .before .before .before .before .before .before .before .before .before .before .before .before .before .args .states) (c .before .before .before .before .before .before .before .before .before .before .before .before .before .before .before .before .kept .result .on) (c .before .before .before .before .before .before .before .before .before .before .before .before .before .before .before .before .kept .ensures .is-on ∙ c .before .before .before .before .before .before .before .before .before .before .before .before .before .before .before .before .before .before .before .before .before .before .before .before .before .before .pre .2 .is-on) (c .before .before .before .before .before .before .before .before .before .before .before .before .before .before .before .before .before .before .before .before .before .before .before .before .before .before .pre .2 .settled) (c .before .before .before .before .before .before .before .before .before .before .before .quiet-walk .result .ran) (c .before .before .before .before .before .before .before .before .before .before .before .quiet-walk .last .1 .1 .1 .1 .1 .1 .1 .1 .1 .1 .1 .1 .0) (c .before .before .before .before .before .before .before .before .before .before .before .quiet-walk .last .1 .1 .1 .1 .1 .1 .1 .1 .1 .1 .1 .1 .1 .0) (c .before .before .before .before .before .before .before .before .before .before .before .quiet-walk .result .moment) (c .before .before .before .before .before .before .before .before .before .before .before .quiet-walk .last .1 .1 .1 .1 .1 .1 .1 .1 .1 .1 .1 .0) _ (c .before .before .before .before .before .before .before .before .before .before .before .quiet-walk .ensures .stays-possible))
+command-all-requires c κs =
+    let walking = c .before .before .before .before .before .before .before .before .before .before .before in
+    let keeping = walking .before .before .before .before .before in
+    let start = keeping .before .before .before .before .before .before .before .before .before .before in
+    rw (c .before .made .ensures) (switchable-made (start .args .st) (start .pre .0 .file) (start .args .states) (keeping .kept .result .on) (keeping .kept .ensures .is-on ∙ start .pre .2 .is-on) (walking .quiet-walk .result .ran) (walking .quiet-walk .last .1 .1 .1 .1 .1 .1 .1 .1 .1 .1 .1 .1 .0) (walking .quiet-walk .last .1 .1 .1 .1 .1 .1 .1 .1 .1 .1 .1 .1 .1 .0) (walking .quiet-walk .result .moment) (walking .quiet-walk .last .1 .1 .1 .1 .1 .1 .1 .1 .1 .1 .1 .0) _ (walking .quiet-walk .ensures .stays-possible))
 
 same-length : tie.Need-same-length
 same-length c = search needs
@@ -74,13 +83,17 @@ same-length-2 : tie.Need-same-length-2
 same-length-2 c = search needs
 
 returns : tie.Need-returns
-returns c = as-went _ _ _ _ _ _ _ _ _ _ _ _ _ _ _ _ _ _ (none-ran (c .before .before .before .before .before .before .before .before .before .before .before .before .before .before .before .before .before .before .before .before .before .before .before .before .before .before .before .args .states) (c .before .before .before .before .before .before .before .before .before .before .before .before .before .before .before .before .before .kept .result .on) _ _ (eight (c .before .before .before .before .before .before .before .before .before .before .before .before .before .before .before .before .before .before .before .before .before .before .before .before .before .before .before)) (λ i l. getD-replicate 8 i 0 0 l) (λ i l. getD-replicate 8 i 0 0 l)) (c .command-all .ensures ∙ rw (c .before .before .made .ensures, c .before .mask-called .ensures .0)) (c .before .before .before .before .before .before .before .before .before .before .before .before .quiet-walk .ensures)
+returns c =
+    let walking = c .before .before .before .before .before .before .before .before .before .before .before .before in
+    let keeping = walking .before .before .before .before .before in
+    let start = keeping .before .before .before .before .before .before .before .before .before .before in
+    as-went _ _ _ _ _ _ _ _ _ _ _ _ _ _ _ _ _ _ (none-ran (start .args .states) (keeping .kept .result .on) _ _ (eight start) (λ i l. getD-replicate 8 i 0 0 l) (λ i l. getD-replicate 8 i 0 0 l)) (c .command-all .ensures ∙ rw (c .before .before .made .ensures, c .before .mask-called .ensures .0)) (walking .quiet-walk .ensures)
 
 pub quiet-seconds-spec : {M : Type 1} → statement M
 quiet-seconds-spec =
     tie.close
     (tie.spec
-    calm-requires
+    lasting-requires
     last-quiet-requires
     kept-requires
     slice-aggregate-quiet-walk

@@ -26,7 +26,7 @@ use Rattle.dispatch.proofs.quiet_walk.quiet_walk.Tie as tie
 abbrev Inv-loop : tie.InvT-loop
 Inv-loop st caps base quiet loads solars sheddables last from lent decided₀ energies₀ fuels₀ rows₀ configs moment₀ at₀ next₀ ran₀ decided energies fuels rows moment at next ran =
     (GoesOn st loads solars sheddables rows₀ (runOf moment₀ (sinceQuiet base (quiet .on) 0 energies₀ fuels₀) decided₀) lent from rows (runOf moment (sinceQuiet base (quiet .on) ran energies fuels) decided) at next)
-    × (maskCalled (st .configs) (moment .called) ≡ quiet .on)
+    × (maskCalled (st .configs) (moment .called) ≡ quiet .called)
     × (next ≡ from + ran)
     × (at ≤ length rows)
     × (length rows ≡ length rows₀)
@@ -194,10 +194,9 @@ loop-again c =
     let called = c .before .before .before .before .before .before .before .before .before .before .before .before .before .before .before in
     let at-loop = called .before .before .before .before .before .before .before .before .before in
     let start = at-loop .before .before .before .before .before .before .before .before .before in
-    let calm = start .pre .0 .calm (at-loop .loop .ran) (below called) in
     let t = called .before .before .before .before .before .before .before .before .loop-test .taken in
-    let mask : maskCalled (start .args .st .configs) (called .quiet-second .result .moment .called) ≡ start .args .quiet .on = sym (c .before .before .mask-called .ensures .0) ∙ (omega (arith, c .if1 .left)) in (
-      on-row (start .args .st) (tables start) _ _ _ _ _ _ _ _ _ _ _ (at-loop .loop .inv .0) (within called) (quietHanded (start .args .st) (start .args .base) (start .args .quiet) (at-loop .loop .ran) (called .quiet-second .last .1 .1 .1 .1 .1 .1 .1 .1 .0) (called .quiet-second .last .1 .1 .1 .1 .1 .1 .1 .1 .1 .0) (called .quiet-second .last .1 .1 .1 .1 .1 .1 .1 .0) (called .quiet-second .result)) (called .quiet-second .last .1 .1 .1 .1 .1 .1 .1 .1 .1 .1 .0) (owes called) (c .before .before .before .before .before .answer .given .0 .0) (c .before .before .before .before .before .answer .given .1) (same-size called) _ (back-is (at-loop .loop .rows) (called .quiet-second .last .1 .1 .1 .1 .1 .1 .1 .1 .1 .1 .0) (at-loop .loop .at)) _ (row-run (start .args .st) (start .args .base) (start .args .quiet) (at-loop .loop .ran) (called .quiet-second .last .1 .1 .1 .1 .1 .1 .1 .1 .0) (called .quiet-second .last .1 .1 .1 .1 .1 .1 .1 .1 .1 .0) (called .quiet-second .last .1 .1 .1 .1 .1 .1 .1 .0) (called .quiet-second .result) (c .before .before .before .before .before .answer .given .0 .0) (c .before .before .before .before .before .answer .given .1) ∙ ap (λ (s : List SetState). runOf (called .quiet-second .result .moment) s (called .quiet-second .last .1 .1 .1 .1 .1 .1 .1 .0)) (stays-quiet (start .args .st) (start .args .base) (start .args .quiet .on) (calm .is-on) (calm .settled) (at-loop .loop .ran + 1) (called .quiet-second .last .1 .1 .1 .1 .1 .1 .1 .1 .0) (called .quiet-second .last .1 .1 .1 .1 .1 .1 .1 .1 .1 .0) (called .quiet-second .result .moment .called) mask)),
+    let mask : maskCalled (start .args .st .configs) (called .quiet-second .result .moment .called) ≡ start .args .quiet .called = sym (c .before .before .mask-called .ensures .0) ∙ (omega (arith, c .if1 .left)) in (
+      on-row (start .args .st) (tables start) _ _ _ _ _ _ _ _ _ _ _ (at-loop .loop .inv .0) (within called) (quietHanded (start .args .st) (start .args .base) (start .args .quiet) (at-loop .loop .ran) (called .quiet-second .last .1 .1 .1 .1 .1 .1 .1 .1 .0) (called .quiet-second .last .1 .1 .1 .1 .1 .1 .1 .1 .1 .0) (called .quiet-second .last .1 .1 .1 .1 .1 .1 .1 .0) (called .quiet-second .result)) (called .quiet-second .last .1 .1 .1 .1 .1 .1 .1 .1 .1 .1 .0) (owes called) (c .before .before .before .before .before .answer .given .0 .0) (c .before .before .before .before .before .answer .given .1) (same-size called) _ (back-is (at-loop .loop .rows) (called .quiet-second .last .1 .1 .1 .1 .1 .1 .1 .1 .1 .1 .0) (at-loop .loop .at)) _ (row-run (start .args .st) (start .args .base) (start .args .quiet) (at-loop .loop .ran) (called .quiet-second .last .1 .1 .1 .1 .1 .1 .1 .1 .0) (called .quiet-second .last .1 .1 .1 .1 .1 .1 .1 .1 .1 .0) (called .quiet-second .last .1 .1 .1 .1 .1 .1 .1 .0) (called .quiet-second .result) (c .before .before .before .before .before .answer .given .0 .0) (c .before .before .before .before .before .answer .given .1) ∙ ap (λ (s : List SetState). runOf (called .quiet-second .result .moment) s (called .quiet-second .last .1 .1 .1 .1 .1 .1 .1 .0)) (stays-quiet (start .args .st) (start .args .base) (start .args .quiet) (start .pre .0 .is-on) (start .pre .0 .unmoved) (at-loop .loop .ran + 1) (called .quiet-second .last .1 .1 .1 .1 .1 .1 .1 .1 .0) (called .quiet-second .last .1 .1 .1 .1 .1 .1 .1 .1 .1 .0) (called .quiet-second .result .moment .called) mask)),
       mask,
       omega (arith, at-loop .loop .inv .2),
       omega (arith, row-fits (start .args .st) (tables start) _ _ _ _ _ _ _ _ _ _ _ (at-loop .loop .inv .0) (within called) (quietHanded (start .args .st) (start .args .base) (start .args .quiet) (at-loop .loop .ran) (called .quiet-second .last .1 .1 .1 .1 .1 .1 .1 .1 .0) (called .quiet-second .last .1 .1 .1 .1 .1 .1 .1 .1 .1 .0) (called .quiet-second .last .1 .1 .1 .1 .1 .1 .1 .0) (called .quiet-second .result)) (called .quiet-second .last .1 .1 .1 .1 .1 .1 .1 .1 .1 .1 .0) (owes called) (c .before .before .before .before .before .answer .given .0 .0) (c .before .before .before .before .before .answer .given .1) (same-size called) (at-loop .loop .inv .3), back-length (at-loop .loop .rows) (called .quiet-second .last .1 .1 .1 .1 .1 .1 .1 .1 .1 .1 .0) (at-loop .loop .at) (same-size called)),
@@ -244,9 +243,8 @@ returns-2 c =
     let called = c .before .before .before .before .before .before .before .before .before .before in
     let at-loop = called .before .before .before .before .before .before .before .before .before in
     let start = at-loop .before .before .before .before .before .before .before .before .before in
-    let calm = start .pre .0 .calm (at-loop .loop .ran) (below called) in
     let back = handed-back (start .args .st) (tables start) _ _ _ _ _ _ _ _ _ _ _ (at-loop .loop .inv .0) (within called) (quietHanded (start .args .st) (start .args .base) (start .args .quiet) (at-loop .loop .ran) (called .quiet-second .last .1 .1 .1 .1 .1 .1 .1 .1 .0) (called .quiet-second .last .1 .1 .1 .1 .1 .1 .1 .1 .1 .0) (called .quiet-second .last .1 .1 .1 .1 .1 .1 .1 .0) (called .quiet-second .result)) (called .quiet-second .last .1 .1 .1 .1 .1 .1 .1 .1 .1 .1 .0) (owes called) _ (c .enum-told .given .1) in
-    on-refusal (start .args .st) (tables start) _ _ _ _ _ _ _ _ _ _ _ (at-loop .loop .inv .0) (within called) (quietHanded (start .args .st) (start .args .base) (start .args .quiet) (at-loop .loop .ran) (called .quiet-second .last .1 .1 .1 .1 .1 .1 .1 .1 .0) (called .quiet-second .last .1 .1 .1 .1 .1 .1 .1 .1 .1 .0) (called .quiet-second .last .1 .1 .1 .1 .1 .1 .1 .0) (called .quiet-second .result)) (called .quiet-second .last .1 .1 .1 .1 .1 .1 .1 .1 .1 .1 .0) (owes called) _ (c .enum-told .given .1) _ (back-is (at-loop .loop .rows) (called .quiet-second .last .1 .1 .1 .1 .1 .1 .1 .1 .1 .1 .0) (at-loop .loop .at)) _ (as-it-was (start .args .st) (start .args .base) (start .args .quiet .on) (calm .is-on) (calm .settled) (at-loop .loop .moment) (called .quiet-second .result .moment) (at-loop .loop .ran) (at-loop .loop .energies) (at-loop .loop .fuels) (at-loop .loop .decided) (called .quiet-second .last .1 .1 .1 .1 .1 .1 .1 .1 .0) (called .quiet-second .last .1 .1 .1 .1 .1 .1 .1 .1 .1 .0) (called .quiet-second .last .1 .1 .1 .1 .1 .1 .1 .0) (at-loop .loop .inv .1) (sym (refused-run (start .args .st) (start .args .base) (start .args .quiet) (at-loop .loop .ran) (called .quiet-second .last .1 .1 .1 .1 .1 .1 .1 .1 .0) (called .quiet-second .last .1 .1 .1 .1 .1 .1 .1 .1 .1 .0) (called .quiet-second .last .1 .1 .1 .1 .1 .1 .1 .0) (called .quiet-second .result) _ (c .enum-told .given .1)) ∙ back))
+    on-refusal (start .args .st) (tables start) _ _ _ _ _ _ _ _ _ _ _ (at-loop .loop .inv .0) (within called) (quietHanded (start .args .st) (start .args .base) (start .args .quiet) (at-loop .loop .ran) (called .quiet-second .last .1 .1 .1 .1 .1 .1 .1 .1 .0) (called .quiet-second .last .1 .1 .1 .1 .1 .1 .1 .1 .1 .0) (called .quiet-second .last .1 .1 .1 .1 .1 .1 .1 .0) (called .quiet-second .result)) (called .quiet-second .last .1 .1 .1 .1 .1 .1 .1 .1 .1 .1 .0) (owes called) _ (c .enum-told .given .1) _ (back-is (at-loop .loop .rows) (called .quiet-second .last .1 .1 .1 .1 .1 .1 .1 .1 .1 .1 .0) (at-loop .loop .at)) _ (as-it-was (start .args .st) (start .args .base) (start .args .quiet) (start .pre .0 .is-on) (start .pre .0 .unmoved) (at-loop .loop .moment) (called .quiet-second .result .moment) (at-loop .loop .ran) (at-loop .loop .energies) (at-loop .loop .fuels) (at-loop .loop .decided) (called .quiet-second .last .1 .1 .1 .1 .1 .1 .1 .1 .0) (called .quiet-second .last .1 .1 .1 .1 .1 .1 .1 .1 .1 .0) (called .quiet-second .last .1 .1 .1 .1 .1 .1 .1 .0) (at-loop .loop .inv .1) (sym (refused-run (start .args .st) (start .args .base) (start .args .quiet) (at-loop .loop .ran) (called .quiet-second .last .1 .1 .1 .1 .1 .1 .1 .1 .0) (called .quiet-second .last .1 .1 .1 .1 .1 .1 .1 .1 .1 .0) (called .quiet-second .last .1 .1 .1 .1 .1 .1 .1 .0) (called .quiet-second .result) _ (c .enum-told .given .1)) ∙ back))
 
 same-length-9 : tie.Need-same-length-9 Inv-loop μ-loop
 same-length-9 c =
@@ -273,7 +271,7 @@ returns-3 : tie.Need-returns-3 Inv-loop μ-loop
 returns-3 c =
     let at-loop = c .before in
     let start = at-loop .before .before .before .before .before .before .before .before .before in
-    as-commanded _ _ _ _ _ _ _ _ _ _ _ _ _ _ _ (stays-quiet (start .args .st) (start .args .base) (start .args .quiet .on) (start .pre .0 .is-on) (start .pre .0 .settled) (at-loop .loop .ran) (at-loop .loop .energies) (at-loop .loop .fuels) (at-loop .loop .moment .called) (at-loop .loop .inv .1)) (at-loop .loop .inv .0)
+    as-commanded _ _ _ _ _ _ _ _ _ _ _ _ _ _ _ (stays-quiet (start .args .st) (start .args .base) (start .args .quiet) (start .pre .0 .is-on) (start .pre .0 .unmoved) (at-loop .loop .ran) (at-loop .loop .energies) (at-loop .loop .fuels) (at-loop .loop .moment .called) (at-loop .loop .inv .1)) (at-loop .loop .inv .0)
 
 pub quiet-walk-spec : {M : Type 1} → statement M
 quiet-walk-spec =
