@@ -4,7 +4,7 @@ ghost use mathlib.Core.List.{List};
 ghost use Prim.Native.Nat.{_≤_, _<_, min};
 ghost use lib.ListN.{take};
 ghost use Rattle.rules.specs.Setpoint.{covers};
-ghost use Rattle.rules.specs.Configuration.{maskCalled, usable, usableCovering, firstCovering, greatestUsable, chosen};
+ghost use Rattle.rules.specs.Configuration.{maskCalled, usable, usableCovering, firstCovering, greatestUsable, chosen, sinceAfter};
 ghost use Rattle.modes.specs.Barred.{barredMask};
 ghost use Rattle.rules.specs.Share.{capacity};
 ghost use Rattle.commitment.specs.Choice.{greater, capacities, Rated};
@@ -200,4 +200,11 @@ pub fn chosen(
         return first;
     }
     greatest_usable(&configs, caps, configcount, barred)
+}
+
+// "The since-second changes only when the number does."
+pub fn since_after(call: usize, called: usize, since: u32, now: u32) -> u32
+    ensures { λ r. ⌜ r ≡ sinceAfter call called since now ⌝ }
+{
+    if call == called { since } else { now }
 }

@@ -1,6 +1,5 @@
 // The eleven steps of a second that nothing refuses: the record after it, and its row.
 ghost use mathlib.Core.Path.{_≡_};
-ghost use Rattle.rules.specs.Configuration.{sinceAfter};
 ghost use Rattle.laws.specs.Admitted.{Admitted};
 ghost use lib.ListN.{length};
 ghost use Rattle.commitment.specs.Choice.{Rated};
@@ -10,18 +9,12 @@ use crate::commit::wanted_now;
 use crate::parts::Moment;
 use crate::supply::supply;
 use crate::totals::plus;
+use commitment::configuration::since_after;
 use rules::run::Held;
 use rules::run::Inputs;
 use rules::run::Row;
 use rules::run::SetState;
 use rules::station::Station;
-
-// "The since-second changes only when the number does."
-pub(crate) fn since_after(call: usize, called: usize, since: u32, now: u32) -> u32
-    ensures { λ r. ⌜ r ≡ sinceAfter call called since now ⌝ }
-{
-    if call == called { since } else { now }
-}
 
 // What the steps come to: the record after them but for the decided amounts, and the row.
 pub(crate) struct Stepped {

@@ -1,7 +1,7 @@
--- `dispatch::step::since_after` meets its contract. Assumes nothing.
+-- `since_after` meets its contract. Assumes nothing.
 use borrow.Author.Tests.{eq-eqb, ne-eqb}
-use Rattle.dispatch.proofs.step.since_after.Statement.{statement}
-use Rattle.dispatch.proofs.step.since_after.Tie as tie
+use Rattle.commitment.proofs.configuration.since_after.Statement.{statement}
+use Rattle.commitment.proofs.configuration.since_after.Tie as tie
 
 returns : tie.Need-returns
 returns c = rw (eq-eqb _ _ (c .if1 .taken))
