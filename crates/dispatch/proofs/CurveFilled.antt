@@ -150,12 +150,7 @@ module _ {sets : List GenSet} {mask : ℕ} {sums₀ lines₀ : List ℕ} (h : Fi
 
   module _ {i sum : ℕ} {sums lines : List ℕ} (now : Tabling sets mask i sum sums lines) where
     pub tabled : 8 ≤ i → Tabled sets mask sums lines
-    tabled u = record {
-      sums-length = now .sums-length;
-      lines-length = now .lines-length;
-      summed = λ k l. now .summed k (omega arith);
-      curve = λ k l. now .curve k (omega arith);
-    }
+    tabled u = record { summed = λ k l. now .summed k (omega arith); curve = λ k l. now .curve k (omega arith) }
 
     module _ (less : i < 8) where
       pub set-in-rule : InRule (setAt sets i)

@@ -37,8 +37,6 @@ pub record Untouched (old new : List ℕ) (place : ℕ) : Type 0 where
 
 -- both tables, of the mask's sets
 pub record Tabled (sets : List GenSet) (mask : ℕ) (sums lines : List ℕ) : Type 0 where
-  pub sums-length : length sums ≡ 8
-  pub lines-length : length lines ≡ 160
   pub summed : (i : ℕ) → i < 8 → has mask i ≡ true → getD sums i 0 ≡ runningTotal sets mask (suc i)
   pub curve : (i : ℕ) → i < 8 → has mask i ≡ true → CurveAt (setAt sets i) lines (i * 20)
 
@@ -51,6 +49,6 @@ pub record Fillable (sets : List GenSet) (mask : ℕ) (sums lines : List ℕ) : 
 -- what reading a set's lines at a power may take for granted
 pub record Readable (g : GenSet) (lines : List ℕ) (base power : ℕ) : Type 0 where
   pub in-rule : InRule g
-  pub room : base + 20 ≤ length lines
+  pub room : base + 20 ≤ 160
   pub curve : CurveAt g lines base
   pub power-most : power ≤ g .rating

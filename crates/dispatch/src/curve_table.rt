@@ -80,7 +80,7 @@ fn passed(start: u64, at: u64) -> usize
 }
 
 // The line of a power: loads rise, so that as many of the lines after the first have begun.
-fn line_at(genset: GenSet, base: usize, lines: &[u64], power: u64) -> usize
+fn line_at(genset: GenSet, base: usize, lines: &[u64; 160], power: u64) -> usize
     requires { ⌜ Readable genset (now lines) base power ⌝ }
     ensures { λ r. ⌜ r ≡ lowerPoint genset power ⌝ }
 {
@@ -106,7 +106,7 @@ fn height(start: u64, base: u64, first: u64, second: u64, at: u64) -> u64
 }
 
 // What a set burns in a second at a power.
-pub(crate) fn burned_at(genset: GenSet, base: usize, lines: &[u64], power: u64) -> u64
+pub(crate) fn burned_at(genset: GenSet, base: usize, lines: &[u64; 160], power: u64) -> u64
     requires { ⌜ Readable genset (now lines) base power ⌝ }
     ensures { λ r. ⌜ (r ≡ fuelRate genset power) × (r ≤ 15_000_000_000) ⌝ }
 {

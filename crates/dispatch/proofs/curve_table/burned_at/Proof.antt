@@ -9,43 +9,43 @@ line-at-requires : tie.Need-line-at-requires
 line-at-requires c κs = search needs
 
 mul-line : tie.Need-mul-line
-mul-line c = let at = c in omega (arith, within-table (at .before .before .pre) _ (at .line-at .ensures))
+mul-line c = let at = c in omega (arith, within-table (at .before .pre) _ (at .line-at .ensures))
 
 add-line : tie.Need-add-line
-add-line c = let at = c in omega (arith, within-table (at .before .before .pre) _ (at .line-at .ensures))
+add-line c = let at = c in omega (arith, within-table (at .before .pre) _ (at .line-at .ensures))
 
 mul-height : tie.Need-mul-height
-mul-height c = let at = c in omega (arith, within-table (at .before .before .pre) _ (at .line-at .ensures))
+mul-height c = let at = c in omega (arith, within-table (at .before .pre) _ (at .line-at .ensures))
 
-shared-slice-read-height : tie.Need-shared-slice-read-height
-shared-slice-read-height c = let at = c .before in omega (arith, within-table (at .before .before .pre) _ (at .line-at .ensures))
+element-copy-out-height : tie.Need-element-copy-out-height
+element-copy-out-height c = let at = c in omega (arith, within-table (at .before .pre) _ (at .line-at .ensures))
 
 add-height : tie.Need-add-height
-add-height c = let at = c .before in omega (arith, within-table (at .before .before .pre) _ (at .line-at .ensures))
+add-height c = let at = c .before in omega (arith, within-table (at .before .pre) _ (at .line-at .ensures))
 
 mul-height-2 : tie.Need-mul-height-2
-mul-height-2 c = let at = c .before in omega (arith, within-table (at .before .before .pre) _ (at .line-at .ensures))
+mul-height-2 c = let at = c .before in omega (arith, within-table (at .before .pre) _ (at .line-at .ensures))
 
-shared-slice-read-height-2 : tie.Need-shared-slice-read-height-2
-shared-slice-read-height-2 c = let at = c .before .before in omega (arith, within-table (at .before .before .pre) _ (at .line-at .ensures))
+element-copy-out-height-2 : tie.Need-element-copy-out-height-2
+element-copy-out-height-2 c = let at = c .before in omega (arith, within-table (at .before .pre) _ (at .line-at .ensures))
 
 add-height-2 : tie.Need-add-height-2
-add-height-2 c = let at = c .before .before in omega (arith, within-table (at .before .before .pre) _ (at .line-at .ensures))
+add-height-2 c = let at = c .before .before in omega (arith, within-table (at .before .pre) _ (at .line-at .ensures))
 
 mul-height-3 : tie.Need-mul-height-3
-mul-height-3 c = let at = c .before .before in omega (arith, within-table (at .before .before .pre) _ (at .line-at .ensures))
+mul-height-3 c = let at = c .before .before in omega (arith, within-table (at .before .pre) _ (at .line-at .ensures))
 
-shared-slice-read-height-3 : tie.Need-shared-slice-read-height-3
-shared-slice-read-height-3 c = let at = c .before .before .before in omega (arith, within-table (at .before .before .pre) _ (at .line-at .ensures))
+element-copy-out-height-3 : tie.Need-element-copy-out-height-3
+element-copy-out-height-3 c = let at = c .before .before in omega (arith, within-table (at .before .pre) _ (at .line-at .ensures))
 
 add-height-3 : tie.Need-add-height-3
-add-height-3 c = let at = c .before .before .before in omega (arith, within-table (at .before .before .pre) _ (at .line-at .ensures))
+add-height-3 c = let at = c .before .before .before in omega (arith, within-table (at .before .pre) _ (at .line-at .ensures))
 
 mul-height-4 : tie.Need-mul-height-4
-mul-height-4 c = let at = c .before .before .before in omega (arith, within-table (at .before .before .pre) _ (at .line-at .ensures))
+mul-height-4 c = let at = c .before .before .before in omega (arith, within-table (at .before .pre) _ (at .line-at .ensures))
 
-shared-slice-read-height-4 : tie.Need-shared-slice-read-height-4
-shared-slice-read-height-4 c = let at = c .before .before .before .before in omega (arith, within-table (at .before .before .pre) _ (at .line-at .ensures))
+element-copy-out-height-4 : tie.Need-element-copy-out-height-4
+element-copy-out-height-4 c = let at = c .before .before .before in omega (arith, within-table (at .before .pre) _ (at .line-at .ensures))
 
 mul-height-5 : tie.Need-mul-height-5
 mul-height-5 c = search needs
@@ -53,28 +53,28 @@ mul-height-5 c = search needs
 height-requires : tie.Need-height-requires
 height-requires c κs =
     let at = c .before .before .before .before in
-    let h = at .before .before .pre in
+    let h = at .before .pre in
     let lower = at .line-at .ensures in
     (start-fits h _ lower, base-fits h _ lower, first-fits h _ lower, second-fits h _ lower, omega (arith, thousands h))
 
 add-result : tie.Need-add-result
-add-result c = let at = c .before .before .before .before .before in omega (arith, within-table (at .before .before .pre) _ (at .line-at .ensures))
+add-result c = let at = c .before .before .before .before .before in omega (arith, within-table (at .before .pre) _ (at .line-at .ensures))
 
 mul-result : tie.Need-mul-result
-mul-result c = let at = c .before .before .before .before .before in omega (arith, within-table (at .before .before .pre) _ (at .line-at .ensures))
+mul-result c = let at = c .before .before .before .before .before in omega (arith, within-table (at .before .pre) _ (at .line-at .ensures))
 
-shared-slice-read-result : tie.Need-shared-slice-read-result
-shared-slice-read-result c = let at = c .before .before .before .before .before .before in omega (arith, within-table (at .before .before .pre) _ (at .line-at .ensures))
+element-copy-out-result : tie.Need-element-copy-out-result
+element-copy-out-result c = let at = c .before .before .before .before .before in omega (arith, within-table (at .before .pre) _ (at .line-at .ensures))
 
 div-result : tie.Need-div-result
 div-result c =
     let at = c .before .before .before .before .before .before in
-    some-width (at .before .before .pre) _ (at .line-at .ensures)
+    some-width (at .before .pre) _ (at .line-at .ensures)
 
 returns : tie.Need-returns
 returns c =
     let at = c .before .before .before .before .before .before in
-    rate-read (at .before .before .pre) _ (at .line-at .ensures) _ (c .before .height .ensures)
+    rate-read (at .before .pre) _ (at .line-at .ensures) _ (c .before .height .ensures)
 
 pub burned-at-spec : {M : Type 1} → statement M
 burned-at-spec =
@@ -84,20 +84,20 @@ burned-at-spec =
     mul-line
     add-line
     mul-height
-    shared-slice-read-height
+    element-copy-out-height
     add-height
     mul-height-2
-    shared-slice-read-height-2
+    element-copy-out-height-2
     add-height-2
     mul-height-3
-    shared-slice-read-height-3
+    element-copy-out-height-3
     add-height-3
     mul-height-4
-    shared-slice-read-height-4
+    element-copy-out-height-4
     mul-height-5
     height-requires
     add-result
     mul-result
-    shared-slice-read-result
+    element-copy-out-result
     div-result
     returns)

@@ -1,7 +1,6 @@
 -- `dispatch::curve_table::line_at` meets its contract. Assumes nothing.
 use borrow.Author.Needs.{needs}
 use mathlib.Core.Path.{_≡_}
-use native.Mathlib.Omega.{arith}
 use Rattle.dispatch.proofs.CurveRead.{line-counted}
 use Rattle.dispatch.proofs.curve_table.line_at.Statement.{statement}
 use Rattle.dispatch.proofs.curve_table.line_at.Tie as tie
@@ -15,8 +14,8 @@ add-passed c = search needs
 mul-passed : tie.Need-mul-passed
 mul-passed c = search needs
 
-shared-slice-read-passed : tie.Need-shared-slice-read-passed
-shared-slice-read-passed c = search needs
+element-copy-out-passed : tie.Need-element-copy-out-passed
+element-copy-out-passed c = search needs
 
 passed-requires : tie.Need-passed-requires
 passed-requires c κs = search needs
@@ -27,8 +26,8 @@ add-passed-2 c = search needs
 mul-passed-2 : tie.Need-mul-passed-2
 mul-passed-2 c = search needs
 
-shared-slice-read-passed-2 : tie.Need-shared-slice-read-passed-2
-shared-slice-read-passed-2 c = search needs
+element-copy-out-passed-2 : tie.Need-element-copy-out-passed-2
+element-copy-out-passed-2 c = search needs
 
 passed-requires-2 : tie.Need-passed-requires-2
 passed-requires-2 c κs = search needs
@@ -39,21 +38,21 @@ add-passed-3 c = search needs
 mul-passed-3 : tie.Need-mul-passed-3
 mul-passed-3 c = search needs
 
-shared-slice-read-passed-3 : tie.Need-shared-slice-read-passed-3
-shared-slice-read-passed-3 c = search needs
+element-copy-out-passed-3 : tie.Need-element-copy-out-passed-3
+element-copy-out-passed-3 c = search needs
 
 passed-requires-3 : tie.Need-passed-requires-3
 passed-requires-3 c κs = search needs
 
 add-result : tie.Need-add-result
-add-result c = omega arith
+add-result c = search needs
 
 add-result-2 : tie.Need-add-result-2
-add-result-2 c = omega arith
+add-result-2 c = search needs
 
 returns : tie.Need-returns
 returns c =
-    let start = c .before .before .before .before .before .before .before in
+    let start = c .before .before .before .before .before .before in
     rw (c .passed3 .ensures .0, c .before .before .passed2 .ensures .0, c .before .before .before .before .passed .ensures .0) (line-counted (start .pre))
 
 pub line-at-spec : {M : Type 1} → statement M
@@ -63,15 +62,15 @@ line-at-spec =
     mul-at
     add-passed
     mul-passed
-    shared-slice-read-passed
+    element-copy-out-passed
     passed-requires
     add-passed-2
     mul-passed-2
-    shared-slice-read-passed-2
+    element-copy-out-passed-2
     passed-requires-2
     add-passed-3
     mul-passed-3
-    shared-slice-read-passed-3
+    element-copy-out-passed-3
     passed-requires-3
     add-result
     add-result-2

@@ -1,80 +1,84 @@
--- `dispatch::quiet_seconds::quiet_seconds` meets its contract. Assumes nothing.
 use borrow.Author.Needs.{needs}
-use Prim.Native.Nat.{ℕ, _+_, _≤_, _<_}
-use mathlib.Core.Path.{_≡_, refl, sym, ap, _∙_}
-use native.Mathlib.Omega.{arith}
-use denote.Ref.{now}
-use lib.ListN.{length, getD, getD-replicate}
-use Rattle.dispatch.specs.QuietSecond.{Calm, Walkable}
-use Rattle.dispatch.proofs.QuietEnds.{none-ran, fewer, small-made, switchable-made, as-went}
 use Rattle.dispatch.proofs.quiet_seconds.quiet_seconds.Statement.{statement}
 use Rattle.dispatch.proofs.quiet_seconds.quiet_seconds.Tie as tie
+use Rattle.dispatch.proofs.quiet_seconds.quiet_seconds.Reads as reads
+use Rattle.dispatch.proofs.quiet_seconds.quiet_seconds.Lts as lts
+use Rattle.commitment.proofs.configuration.mask_called.Reads as mask-called-reads
+use Rattle.dispatch.proofs.commands.command_all.Reads as command-all-reads
+use Rattle.dispatch.proofs.curve_table.fill_tables.Reads as fill-tables-reads
+use Rattle.dispatch.proofs.quiet.calm.Reads as calm-reads
+use Rattle.dispatch.proofs.quiet.made.Reads as made-reads
+use Rattle.dispatch.proofs.quiet_seconds.kept.Reads as kept-reads
+use Rattle.dispatch.proofs.quiet_seconds.last_quiet.Reads as last-quiet-reads
+use Rattle.dispatch.proofs.quiet_walk.quiet_walk.Reads as quiet-walk-reads
 
--- there are eight states
-eight : (c : tie.Start) → length (c .args .states) ≡ 8
-eight c = c .good .1 .1 .0 .1 .0 .1
-
+-- src/quiet_seconds.rt:85:40
 calm-requires : tie.Need-calm-requires
 calm-requires c κs = search needs
 
+-- src/quiet_seconds.rt:85:9
 last-quiet-requires : tie.Need-last-quiet-requires
 last-quiet-requires c κs = search needs
 
+-- src/quiet_seconds.rt:88:27
+slice-aggregate-fill-tables : tie.Need-slice-aggregate-fill-tables
+slice-aggregate-fill-tables c = search needs
+
+-- src/quiet_seconds.rt:88:38
+slice-aggregate-fill-tables-2 : tie.Need-slice-aggregate-fill-tables-2
+slice-aggregate-fill-tables-2 c = search needs
+
+-- src/quiet_seconds.rt:88:5
+fill-tables-requires : tie.Need-fill-tables-requires
+fill-tables-requires c κs = ?
+
+-- src/quiet_seconds.rt:89:9
 kept-requires : tie.Need-kept-requires
 kept-requires c κs = search needs
 
+-- src/quiet_seconds.rt:103:9
 slice-aggregate-quiet-walk : tie.Need-slice-aggregate-quiet-walk
 slice-aggregate-quiet-walk c = search needs
 
+-- src/quiet_seconds.rt:104:9
 slice-aggregate-quiet-walk-2 : tie.Need-slice-aggregate-quiet-walk-2
 slice-aggregate-quiet-walk-2 c = search needs
 
+-- src/quiet_seconds.rt:90:9
 quiet-walk-requires : tie.Need-quiet-walk-requires
-quiet-walk-requires c κs =
-    let q = c .before .before .before .before .kept .ensures in
-    let last = c .before .before .before .before .before .last-quiet .ensures in
-    let calm = c .before .before .before .before .before .before .calm .ensures in (
-      record {
-        is-on = q .is-on ∙ c .before .before .before .before .before .before .before .before .before .before .before .before .before .before .pre .2 .is-on;
-        settled = c .before .before .before .before .before .before .before .before .before .before .before .before .before .before .pre .2 .settled;
-        file = c .before .before .before .before .before .before .before .before .before .before .before .before .before .before .pre .0 .file;
-        was-possible = rw (none-ran (c .before .before .before .before .before .before .before .before .before .before .before .before .before .before .args .states) (c .before .before .before .before .kept .result .on) _ _ (eight (c .before .before .before .before .before .before .before .before .before .before .before .before .before .before)) (λ i l. getD-replicate 8 i 0 0 l) (λ i l. getD-replicate 8 i 0 0 l)) (c .before .before .before .before .before .before .before .before .before .before .before .before .before .before .pre .0 .was-possible);
-        called = c .before .before .before .before .before .before .before .before .before .before .before .before .before .before .pre .2 .called ∙ sym (q .is-on);
-        in-range = omega (arith, last .0, c .before .before .before .before .before .before .before .before .before .before .before .before .before .before .pre .0 .is-asked);
-        calm = λ ran l. record { is-on = q .is-on ∙ c .before .before .before .before .before .before .before .before .before .before .before .before .before .before .pre .2 .is-on; is-cap = q .is-cap; is-floor = q .is-floor; is-barred = q .is-barred; settled = c .before .before .before .before .before .before .before .before .before .before .before .before .before .before .pre .2 .settled; not-due = fewer _ _ _ (ran + 1) calm (omega (arith, l, last .2)) };
-        few = omega (arith, last .2, calm .most);
-        from-last = last .1;
-        room = c .before .before .before .before .before .before .before .before .before .before .before .before .before .before .pre .0 .room;
-        sixty = c .before .before .before .before .before .before .before .before .before .before .before .before .before .before .pre .0 .sixty;
-        energies-length = search needs;
-        fuels-length = search needs;
-      },
-      c .before .before .before .before .before .before .before .before .before .before .before .before .before .before .pre .1,
-    )
+quiet-walk-requires c κs = ?
 
+-- src/quiet_seconds.rt:110:50
 slice-aggregate-made : tie.Need-slice-aggregate-made
 slice-aggregate-made c = search needs
 
+-- src/quiet_seconds.rt:110:61
 slice-aggregate-made-2 : tie.Need-slice-aggregate-made-2
 slice-aggregate-made-2 c = search needs
 
+-- src/quiet_seconds.rt:110:9
 made-requires : tie.Need-made-requires
-made-requires c κs = record { small = small-made (c .before .before .before .before .before .before .before .before .before .before .before .before .before .before .before .before .before .before .before .before .before .before .before .before .args .st) (c .before .before .before .before .before .before .before .before .before .before .before .before .before .before .before .before .before .before .before .before .before .before .before .before .pre .0 .file) (c .before .before .before .before .before .before .before .before .before .before .before .before .before .before .before .before .before .before .before .before .before .before .before .before .args .states) (c .before .before .before .before .before .before .before .before .before .before .before .before .before .before .kept .result .on) (c .before .before .before .before .before .before .before .before .before .before .before .before .before .before .kept .ensures .is-on ∙ c .before .before .before .before .before .before .before .before .before .before .before .before .before .before .before .before .before .before .before .before .before .before .before .before .pre .2 .is-on) (c .before .before .before .before .before .before .before .before .before .before .before .before .before .before .before .before .before .before .before .before .before .before .before .before .pre .2 .settled) (c .before .before .before .before .before .before .before .before .before .quiet-walk .result .ran) (c .before .before .before .before .before .before .before .before .before .quiet-walk .last .1 .1 .1 .1 .1 .1 .1 .1 .1 .1 .1 .1 .0) (c .before .before .before .before .before .before .before .before .before .quiet-walk .last .1 .1 .1 .1 .1 .1 .1 .1 .1 .1 .1 .1 .1 .0) (c .before .before .before .before .before .before .before .before .before .quiet-walk .result .moment) (c .before .before .before .before .before .before .before .before .before .quiet-walk .last .1 .1 .1 .1 .1 .1 .1 .1 .1 .1 .1 .0) _ (c .before .before .before .before .before .before .before .before .before .quiet-walk .ensures .stays-possible); energies-length = c .before .before .before .before .before .before .before .before .before .quiet-walk .kept .1 .1 .1 .1 .1 .1 .1 .1 .1 .1 .1 .1 .0; fuels-length = c .before .before .before .before .before .before .before .before .before .quiet-walk .kept .1 .1 .1 .1 .1 .1 .1 .1 .1 .1 .1 .1 .1 .0 }
+made-requires c κs = ?
 
+-- src/quiet_seconds.rt:113:40
 mask-called-requires : tie.Need-mask-called-requires
 mask-called-requires c κs = search needs
 
+-- src/quiet_seconds.rt:113:17
 command-all-requires : tie.Need-command-all-requires
-command-all-requires c κs = rw (c .before .made .ensures) (switchable-made (c .before .before .before .before .before .before .before .before .before .before .before .before .before .before .before .before .before .before .before .before .before .before .before .before .before .before .args .st) (c .before .before .before .before .before .before .before .before .before .before .before .before .before .before .before .before .before .before .before .before .before .before .before .before .before .before .pre .0 .file) (c .before .before .before .before .before .before .before .before .before .before .before .before .before .before .before .before .before .before .before .before .before .before .before .before .before .before .args .states) (c .before .before .before .before .before .before .before .before .before .before .before .before .before .before .before .before .kept .result .on) (c .before .before .before .before .before .before .before .before .before .before .before .before .before .before .before .before .kept .ensures .is-on ∙ c .before .before .before .before .before .before .before .before .before .before .before .before .before .before .before .before .before .before .before .before .before .before .before .before .before .before .pre .2 .is-on) (c .before .before .before .before .before .before .before .before .before .before .before .before .before .before .before .before .before .before .before .before .before .before .before .before .before .before .pre .2 .settled) (c .before .before .before .before .before .before .before .before .before .before .before .quiet-walk .result .ran) (c .before .before .before .before .before .before .before .before .before .before .before .quiet-walk .last .1 .1 .1 .1 .1 .1 .1 .1 .1 .1 .1 .1 .0) (c .before .before .before .before .before .before .before .before .before .before .before .quiet-walk .last .1 .1 .1 .1 .1 .1 .1 .1 .1 .1 .1 .1 .1 .0) (c .before .before .before .before .before .before .before .before .before .before .before .quiet-walk .result .moment) (c .before .before .before .before .before .before .before .before .before .before .before .quiet-walk .last .1 .1 .1 .1 .1 .1 .1 .1 .1 .1 .1 .0) _ (c .before .before .before .before .before .before .before .before .before .before .before .quiet-walk .ensures .stays-possible))
+command-all-requires c κs = ?
 
+-- src/quiet_seconds.rt:63:1
 same-length : tie.Need-same-length
 same-length c = search needs
 
+-- src/quiet_seconds.rt:63:1
 same-length-2 : tie.Need-same-length-2
 same-length-2 c = search needs
 
+-- src/quiet_seconds.rt:63:1
 returns : tie.Need-returns
-returns c = as-went _ _ _ _ _ _ _ _ _ _ _ _ _ _ _ _ _ _ (none-ran (c .before .before .before .before .before .before .before .before .before .before .before .before .before .before .before .before .before .before .before .before .before .before .before .before .before .before .before .args .states) (c .before .before .before .before .before .before .before .before .before .before .before .before .before .before .before .before .before .kept .result .on) _ _ (eight (c .before .before .before .before .before .before .before .before .before .before .before .before .before .before .before .before .before .before .before .before .before .before .before .before .before .before .before)) (λ i l. getD-replicate 8 i 0 0 l) (λ i l. getD-replicate 8 i 0 0 l)) (c .command-all .ensures ∙ rw (c .before .before .made .ensures, c .before .mask-called .ensures .0)) (c .before .before .before .before .before .before .before .before .before .before .before .before .quiet-walk .ensures)
+returns c = ?
 
 pub quiet-seconds-spec : {M : Type 1} → statement M
 quiet-seconds-spec =
@@ -82,6 +86,9 @@ quiet-seconds-spec =
     (tie.spec
     calm-requires
     last-quiet-requires
+    slice-aggregate-fill-tables
+    slice-aggregate-fill-tables-2
+    fill-tables-requires
     kept-requires
     slice-aggregate-quiet-walk
     slice-aggregate-quiet-walk-2
