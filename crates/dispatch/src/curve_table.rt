@@ -13,6 +13,7 @@ use words::masks::next_set;
 
 // Numbers of a line, and of the four lines of a set.
 const PER_LINE: usize = 5;
+
 const PER_SET: usize = 20;
 
 // The line through the points j and j + 1, from a place on.

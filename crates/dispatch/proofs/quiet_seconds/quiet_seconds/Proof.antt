@@ -1,84 +1,121 @@
+-- `dispatch::quiet_seconds::quiet_seconds` meets its contract. Assumes nothing.
 use borrow.Author.Needs.{needs}
+use Prim.Native.Nat.{ℕ, _+_, _≤_, _<_}
+use mathlib.Core.Path.{_≡_, refl, sym, ap, _∙_}
+use native.Mathlib.Omega.{arith}
+use denote.Ref.{now}
+use lib.ListN.{length, length-map, getD, getD-replicate, length-replicate}
+use Rattle.rules.proofs.Shapes.{Tables}
+use Rattle.dispatch.specs.Parts.{runOf}
+use Rattle.dispatch.specs.QuietSecond.{Calm, Walkable}
+use Rattle.dispatch.proofs.Ready.{fillable}
+use Rattle.dispatch.proofs.QuietEnds.{none-ran, fewer, small-made, switchable-made, as-went}
 use Rattle.dispatch.proofs.quiet_seconds.quiet_seconds.Statement.{statement}
 use Rattle.dispatch.proofs.quiet_seconds.quiet_seconds.Tie as tie
-use Rattle.dispatch.proofs.quiet_seconds.quiet_seconds.Reads as reads
-use Rattle.dispatch.proofs.quiet_seconds.quiet_seconds.Lts as lts
-use Rattle.commitment.proofs.configuration.mask_called.Reads as mask-called-reads
-use Rattle.dispatch.proofs.commands.command_all.Reads as command-all-reads
-use Rattle.dispatch.proofs.curve_table.fill_tables.Reads as fill-tables-reads
-use Rattle.dispatch.proofs.quiet.calm.Reads as calm-reads
-use Rattle.dispatch.proofs.quiet.made.Reads as made-reads
-use Rattle.dispatch.proofs.quiet_seconds.kept.Reads as kept-reads
-use Rattle.dispatch.proofs.quiet_seconds.last_quiet.Reads as last-quiet-reads
-use Rattle.dispatch.proofs.quiet_walk.quiet_walk.Reads as quiet-walk-reads
 
--- src/quiet_seconds.rt:85:40
+-- there are eight states
+eight : (c : tie.Start) → length (c .args .states) ≡ 8
+eight c = c .good .1 .1 .0 .1 .0 .1
+
+-- the station's tables have their lengths
+tables : (c : tie.Start) → Tables (c .args .st)
+tables c =
+    let good = c .good .0 .1 .1 .1 .1 .1 .1 in
+    record { sets-length = simp length-map at (good .0 .1 .0 .1); configs-length = simp length-map at (good .1 .0 .1 .0 .1) }
+
 calm-requires : tie.Need-calm-requires
 calm-requires c κs = search needs
 
--- src/quiet_seconds.rt:85:9
 last-quiet-requires : tie.Need-last-quiet-requires
 last-quiet-requires c κs = search needs
 
--- src/quiet_seconds.rt:88:27
 slice-aggregate-fill-tables : tie.Need-slice-aggregate-fill-tables
 slice-aggregate-fill-tables c = search needs
 
--- src/quiet_seconds.rt:88:38
 slice-aggregate-fill-tables-2 : tie.Need-slice-aggregate-fill-tables-2
 slice-aggregate-fill-tables-2 c = search needs
 
--- src/quiet_seconds.rt:88:5
 fill-tables-requires : tie.Need-fill-tables-requires
-fill-tables-requires c κs = ?
+fill-tables-requires c κs =
+    let start = c .before .before .before .before .before .before .before .before .before .before .before in
+    fillable (start .args .st) (start .pre .0 .file) (runOf (start .args .moment) (start .args .states) (now (start .args .decided))) (start .pre .0 .was-possible) (tables start) (start .args .on) (start .pre .2 .is-on) _ _ (search needs) (search needs)
 
--- src/quiet_seconds.rt:89:9
 kept-requires : tie.Need-kept-requires
 kept-requires c κs = search needs
 
--- src/quiet_seconds.rt:103:9
 slice-aggregate-quiet-walk : tie.Need-slice-aggregate-quiet-walk
 slice-aggregate-quiet-walk c = search needs
 
--- src/quiet_seconds.rt:104:9
 slice-aggregate-quiet-walk-2 : tie.Need-slice-aggregate-quiet-walk-2
 slice-aggregate-quiet-walk-2 c = search needs
 
--- src/quiet_seconds.rt:90:9
 quiet-walk-requires : tie.Need-quiet-walk-requires
-quiet-walk-requires c κs = ?
+quiet-walk-requires c κs =
+    let keeping = c .before .before .before .before .before .before in
+    let filled = keeping .before .before .before in
+    let ending = filled .before .before .before in
+    let start = ending .before .before .before .before .before .before .before .before .before in
+    let q = keeping .kept .ensures in
+    let last = ending .last-quiet .ensures in
+    let calm = ending .before .calm .ensures in
+    let quietly = start .pre .2 in
+    let asked = start .pre .0 in (
+      record {
+        is-on = q .is-on ∙ quietly .is-on;
+        settled = quietly .settled;
+        file = asked .file;
+        was-possible = rw (none-ran (start .args .states) (keeping .kept .result .on) _ _ (eight start) (λ i l. getD-replicate 8 i 0 0 l) (λ i l. getD-replicate 8 i 0 0 l)) (asked .was-possible);
+        called = quietly .called ∙ sym (q .is-on);
+        in-range = omega (arith, last .0, asked .is-asked);
+        calm = λ ran l. record { is-on = q .is-on ∙ quietly .is-on; is-cap = q .is-cap; is-floor = q .is-floor; is-barred = q .is-barred; settled = quietly .settled; not-due = fewer _ _ _ (ran + 1) calm (omega (arith, l, last .2)) };
+        few = omega (arith, last .2, calm .most);
+        from-last = last .1;
+        room = asked .room;
+        sixty = asked .sixty;
+        energies-length = search needs;
+        fuels-length = search needs;
+      },
+      start .pre .1,
+      rw (q .is-on) (filled .fill-tables .ensures),
+    )
 
--- src/quiet_seconds.rt:110:50
 slice-aggregate-made : tie.Need-slice-aggregate-made
 slice-aggregate-made c = search needs
 
--- src/quiet_seconds.rt:110:61
 slice-aggregate-made-2 : tie.Need-slice-aggregate-made-2
 slice-aggregate-made-2 c = search needs
 
--- src/quiet_seconds.rt:110:9
 made-requires : tie.Need-made-requires
-made-requires c κs = ?
+made-requires c κs =
+    let walked = c .before .before .before .before .before .before .before .before .before in
+    let keeping = walked .before .before .before .before .before .before .before in
+    let start = keeping .before .before .before .before .before .before .before .before .before .before .before .before .before .before .before in
+    let on = keeping .kept .ensures .is-on ∙ start .pre .2 .is-on in
+    record { small = small-made (start .args .st) (start .pre .0 .file) (start .args .states) (keeping .kept .result .on) on (start .pre .2 .settled) (walked .quiet-walk .result .ran) (walked .quiet-walk .last .1 .1 .1 .1 .1 .1 .1 .1 .1 .1 .1 .1 .0) (walked .quiet-walk .last .1 .1 .1 .1 .1 .1 .1 .1 .1 .1 .1 .1 .1 .0) (walked .quiet-walk .result .moment) (walked .quiet-walk .last .1 .1 .1 .1 .1 .1 .1 .1 .1 .1 .1 .0) _ (walked .quiet-walk .ensures .stays-possible); energies-length = walked .quiet-walk .kept .1 .1 .1 .1 .1 .1 .1 .1 .1 .1 .1 .1 .0; fuels-length = walked .quiet-walk .kept .1 .1 .1 .1 .1 .1 .1 .1 .1 .1 .1 .1 .1 .0 }
 
--- src/quiet_seconds.rt:113:40
 mask-called-requires : tie.Need-mask-called-requires
 mask-called-requires c κs = search needs
 
--- src/quiet_seconds.rt:113:17
 command-all-requires : tie.Need-command-all-requires
-command-all-requires c κs = ?
+command-all-requires c κs =
+    let walked = c .before .before .before .before .before .before .before .before .before .before .before in
+    let keeping = walked .before .before .before .before .before .before .before in
+    let start = keeping .before .before .before .before .before .before .before .before .before .before .before .before .before .before .before in
+    let on = keeping .kept .ensures .is-on ∙ start .pre .2 .is-on in
+    rw (c .before .made .ensures) (switchable-made (start .args .st) (start .pre .0 .file) (start .args .states) (keeping .kept .result .on) on (start .pre .2 .settled) (walked .quiet-walk .result .ran) (walked .quiet-walk .last .1 .1 .1 .1 .1 .1 .1 .1 .1 .1 .1 .1 .0) (walked .quiet-walk .last .1 .1 .1 .1 .1 .1 .1 .1 .1 .1 .1 .1 .1 .0) (walked .quiet-walk .result .moment) (walked .quiet-walk .last .1 .1 .1 .1 .1 .1 .1 .1 .1 .1 .1 .0) _ (walked .quiet-walk .ensures .stays-possible))
 
--- src/quiet_seconds.rt:63:1
 same-length : tie.Need-same-length
 same-length c = search needs
 
--- src/quiet_seconds.rt:63:1
 same-length-2 : tie.Need-same-length-2
 same-length-2 c = search needs
 
--- src/quiet_seconds.rt:63:1
 returns : tie.Need-returns
-returns c = ?
+returns c =
+    let walked = c .before .before .before .before .before .before .before .before .before .before .before .before in
+    let keeping = walked .before .before .before .before .before .before .before in
+    let start = keeping .before .before .before .before .before .before .before .before .before .before .before .before .before .before .before in
+    as-went _ _ _ _ _ _ _ _ _ _ _ _ _ _ _ _ _ _ (none-ran (start .args .states) (keeping .kept .result .on) _ _ (eight start) (λ i l. getD-replicate 8 i 0 0 l) (λ i l. getD-replicate 8 i 0 0 l)) (c .command-all .ensures ∙ rw (c .before .before .made .ensures, c .before .mask-called .ensures .0)) (walked .quiet-walk .ensures)
 
 pub quiet-seconds-spec : {M : Type 1} → statement M
 quiet-seconds-spec =
