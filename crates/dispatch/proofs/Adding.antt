@@ -1,13 +1,13 @@
 -- The sets of a mask one after the other as what a quiet second adds is put beside them: at each place the sets before it have theirs,
 -- and what was given is the part of their running total. Assumes nothing.
 use Prim.Native.Nat.{ℕ, zero, suc, _+_, _-_, _*_, _/_, _≤_, _<_, zero-le}
-use mathlib.Core.Path.{_≡_, refl, sym, ap, _∙_}
-use mathlib.Core.Bool.{Bool, true, false}
+use mathlib.Core.Path.{_≡_, _∙_}
+use mathlib.Core.Bool.{true, false}
 use mathlib.Core.List.{List}
 use native.Mathlib.Omega.{arith}
 use native.Mathlib.Numerals.{add-one}
 use native.Mathlib.Nat.{le-trans, mul-zero, mul-le-mul, mul-le-mul-left, zero-div, div-mul-le-self, le-div-iff-mul-le}
-use lib.ListN.{length, getD, set}
+use lib.ListN.{getD, set}
 use lib.Seq.{set-getD}
 use Rattle.rules.specs.declared.station.GenSet.{GenSet}
 use Rattle.rules.specs.Numbers.{sumTo, has}
@@ -22,7 +22,7 @@ use Rattle.words.proofs.Weighed.{weighed-has, weighed-not, weighed-rises}
 use Rattle.gensets.proofs.SharesWalk.{ratingOf}
 use Rattle.modes.proofs.Filled.{Filling, filling-start, filling-at, filling-more}
 use Rattle.dispatch.specs.Quiet.{energyAt, fuelAt, Addable}
-use Rattle.dispatch.specs.CurveTable.{InRule, Tabled, Readable}
+use Rattle.dispatch.specs.CurveTable.{Tabled, Readable}
 
 pub record Adding (sets : List GenSet) (mask diesel cap : ℕ) (energies fuels : List ℕ) (i given : ℕ) (adds burns : List ℕ) : Type 0 where
   pub gave : given ≡ diesel * runningTotal sets mask i / cap

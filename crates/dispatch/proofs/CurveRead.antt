@@ -8,7 +8,7 @@ use native.Mathlib.Omega.{arith}
 use native.Mathlib.Nat.{mul-le-mul-right, le-trans}
 use lib.Dec.{leb}
 use lib.IntN.{ℤ, pos, _+ℤ_, _-ℤ_, _*ℤ_}
-use lib.ListN.{length, getD}
+use lib.ListN.{getD}
 use borrow.Author.Tests.{le-leb, lt-leb, leb-true, leb-false}
 use Rattle.rules.specs.declared.station.GenSet.{GenSet}
 use Rattle.rules.specs.Numbers.{if_then_else_, sumTo}
@@ -19,7 +19,7 @@ use Rattle.laws.proofs.FuelMost.{rate-most}
 use Rattle.gensets.specs.Leaves.{lineRight}
 use Rattle.gensets.proofs.Line.{first-most, second-most, width-some, base-most, start-most}
 use Rattle.gensets.proofs.FuelFacts.{line-passes}
-use Rattle.dispatch.specs.CurveTable.{InRule, lineNumbers, LineAt, CurveAt, Readable}
+use Rattle.dispatch.specs.CurveTable.{InRule, Readable}
 
 -- 1 where a line begins at or below a power x 1000
 abbrev pub begun : ℕ → ℕ → ℕ

@@ -11,10 +11,17 @@ ghost use Rattle.dispatch.specs.CurveTable.{InRule, LineAt, CurveAt, Unt
 use rules::station::GenSet;
 use words::masks::next_set;
 
-// Numbers of a line, and of the four lines of a set.
+// Each set has so many places of the table of lines, and each of its lines so many of those.
+const PER_SET: usize = 20;
+
 const PER_LINE: usize = 5;
 
-const PER_SET: usize = 20;
+// Where a set's lines after the first stand among its places.
+const SECOND_LINE: usize = 5;
+
+const THIRD_LINE: usize = 10;
+
+const FOURTH_LINE: usize = 15;
 
 // The line through the points j and j + 1, from a place on.
 fn put_line(genset: GenSet, j: usize, at: usize, lines: &mut [u64])
@@ -80,15 +87,15 @@ fn passed(start: u64, at: u64) -> usize
     0
 }
 
-// The line of a power: loads rise, so that as many of the lines after the first have begun.
+// The place of a power's line among the set's: loads rise, so that as many of the lines after the first have begun.
 fn line_at(genset: GenSet, base: usize, lines: &[u64; 160], power: u64) -> usize
     requires { ⌜ Readable genset (now lines) base power ⌝ }
     ensures { λ r. ⌜ r ≡ lowerPoint genset power ⌝ }
 {
     let at = power * 1000;
-    let second = passed(lines[base + 5], at);
-    let third = passed(lines[base + 10], at);
-    let fourth = passed(lines[base + 15], at);
+    let second = passed(lines[base + SECOND_LINE], at);
+    let third = passed(lines[base + THIRD_LINE], at);
+    let fourth = passed(lines[base + FOURTH_LINE], at);
     second + third + fourth
 }
 
@@ -106,7 +113,7 @@ fn height(start: u64, base: u64, first: u64, second: u64, at: u64) -> u64
     exact as u64
 }
 
-// What a set burns in a second at a power.
+// What a set burns in a second at a power. The set is named for the contract alone: its lines stand in the table.
 pub(crate) fn burned_at(genset: GenSet, base: usize, lines: &[u64; 160], power: u64) -> u64
     requires { ⌜ Readable genset (now lines) base power ⌝ }
     ensures { λ r. ⌜ (r ≡ fuelRate genset power) × (r ≤ 15_000_000_000) ⌝ }

@@ -1,7 +1,7 @@
 -- `dispatch::curve_table::fill_tables` meets its contract. Assumes nothing.
 use borrow.Author.Needs.{needs}
-use Prim.Native.Nat.{ℕ, _-_}
-use mathlib.Core.Path.{_≡_, sym, _∙_}
+use Prim.Native.Nat.{_-_}
+use mathlib.Core.Path.{sym, _∙_}
 use native.Mathlib.Omega.{arith}
 use Rattle.rules.specs.StationRecord.{pastEnd, setAt}
 use Rattle.words.proofs.Walk.{forward}

@@ -1,6 +1,5 @@
 -- `dispatch::curve_table::line_at` meets its contract. Assumes nothing.
 use borrow.Author.Needs.{needs}
-use mathlib.Core.Path.{_≡_}
 use Rattle.dispatch.proofs.CurveRead.{line-counted}
 use Rattle.dispatch.proofs.curve_table.line_at.Statement.{statement}
 use Rattle.dispatch.proofs.curve_table.line_at.Tie as tie

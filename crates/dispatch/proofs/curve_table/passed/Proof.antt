@@ -1,5 +1,4 @@
 -- `dispatch::curve_table::passed` meets its contract. Assumes nothing.
-use mathlib.Core.Path.{_≡_}
 use native.Mathlib.Omega.{arith}
 use borrow.Author.Tests.{le-leb, lt-leb}
 use Rattle.dispatch.proofs.curve_table.passed.Statement.{statement}

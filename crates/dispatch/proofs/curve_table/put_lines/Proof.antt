@@ -1,11 +1,9 @@
 -- `dispatch::curve_table::put_lines` meets its contract. Assumes nothing.
 use borrow.Author.Needs.{needs}
-use Prim.Native.Nat.{ℕ, _+_, _-_, _*_, _≤_, _<_}
-use mathlib.Core.Path.{_≡_, refl, sym, _∙_}
+use Prim.Native.Nat.{ℕ, _+_, _-_, _*_, _<_}
 use native.Mathlib.Omega.{arith}
 use lib.ListN.{length, length-set}
 use lib.Seq.{getD-set-same, take-set-le}
-use Rattle.dispatch.specs.CurveTable.{InRule}
 use Rattle.dispatch.proofs.CurveFilled.{Drawing, drawing-start, drawing-more, drawn-all}
 use Rattle.dispatch.proofs.curve_table.put_lines.Statement.{statement}
 use Rattle.dispatch.proofs.curve_table.put_lines.Tie as tie

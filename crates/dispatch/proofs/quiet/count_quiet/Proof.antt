@@ -1,9 +1,8 @@
 -- `dispatch::quiet::count_quiet` meets its contract. Assumes nothing.
 use borrow.Author.Needs.{needs}
-use Prim.Native.Nat.{ℕ, _+_, _-_, _<_, zero-le}
-use mathlib.Core.Path.{_≡_, sym, _∙_}
+use Prim.Native.Nat.{_+_, _-_, _<_, zero-le}
+use mathlib.Core.Path.{sym, _∙_}
 use native.Mathlib.Omega.{arith}
-use lib.ListN.{length}
 use Rattle.rules.specs.StationRecord.{pastEnd, setAt}
 use Rattle.words.proofs.Walk.{Place, place, forward}
 use Rattle.modes.proofs.Filled.{filling-whole}

@@ -1,13 +1,12 @@
 -- `dispatch::quiet_seconds::quiet_seconds` meets its contract. Assumes nothing.
 use borrow.Author.Needs.{needs}
-use Prim.Native.Nat.{ℕ, _+_, _≤_, _<_}
-use mathlib.Core.Path.{_≡_, refl, sym, ap, _∙_}
+use Prim.Native.Nat.{_+_}
+use mathlib.Core.Path.{_≡_, sym, _∙_}
 use native.Mathlib.Omega.{arith}
 use denote.Ref.{now}
-use lib.ListN.{length, length-map, getD, getD-replicate, length-replicate}
+use lib.ListN.{length, length-map, getD-replicate}
 use Rattle.rules.proofs.Shapes.{Tables}
 use Rattle.dispatch.specs.Parts.{runOf}
-use Rattle.dispatch.specs.QuietSecond.{Calm, Walkable}
 use Rattle.dispatch.proofs.Ready.{fillable}
 use Rattle.dispatch.proofs.QuietEnds.{none-ran, fewer, small-made, switchable-made, as-went}
 use Rattle.dispatch.proofs.quiet_seconds.quiet_seconds.Statement.{statement}
