@@ -1,7 +1,7 @@
 // Tables for a stretch of quiet seconds: the running totals of the mask's ratings, and the lines of its sets' fuel curves, so that a second
 // reads them and does not work them out anew.
 ghost use mathlib.Core.Path.{_≡_};
-ghost use Prim.Native.Nat.{suc, _+_, _≤_, _<_};
+ghost use Prim.Native.Nat.{suc, _+_, _*_, _≤_, _<_};
 ghost use lib.IntN.{pos, _+ℤ_, _-ℤ_, _*ℤ_};
 ghost use lib.ListN.{length};
 ghost use lib.Dec.{leb};
@@ -114,10 +114,11 @@ fn height(start: u64, base: u64, first: u64, second: u64, at: u64) -> u64
 }
 
 // What a set burns in a second at a power. The set is named for the contract alone: its lines stand in the table.
-pub(crate) fn burned_at(genset: GenSet, base: usize, lines: &[u64; 160], power: u64) -> u64
-    requires { ⌜ Readable genset (now lines) base power ⌝ }
+pub(crate) fn burned_at(genset: GenSet, place: usize, lines: &[u64; 160], power: u64) -> u64
+    requires { ⌜ Readable genset (now lines) (place * 20) power ⌝ }
     ensures { λ r. ⌜ (r ≡ fuelRate genset power) × (r ≤ 15_000_000_000) ⌝ }
 {
+    let base = place * PER_SET;
     let line = base + line_at(genset, base, lines, power) * PER_LINE;
     let top = height(
         lines[line],

@@ -86,7 +86,7 @@ pub(crate) fn count_quiet(
         let upto = (diesel as u64) * sums[at] / cap;
         let power = upto - given;
         given = upto;
-        let burns = burned_at(genset, at * 20, lines, power);
+        let burns = burned_at(genset, at, lines, power);
         energies[at] = energies[at] + power;
         fuels[at] = fuels[at] + burns;
         place = next_set(mask, place + 1);

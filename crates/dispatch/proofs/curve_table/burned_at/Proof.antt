@@ -5,6 +5,9 @@ use Rattle.dispatch.proofs.CurveRead.{thousands, within-table, start-fi
 use Rattle.dispatch.proofs.curve_table.burned_at.Statement.{statement}
 use Rattle.dispatch.proofs.curve_table.burned_at.Tie as tie
 
+mul-base : tie.Need-mul-base
+mul-base c = search needs
+
 line-at-requires : tie.Need-line-at-requires
 line-at-requires c κs = search needs
 
@@ -80,6 +83,7 @@ pub burned-at-spec : {M : Type 1} → statement M
 burned-at-spec =
     tie.close
     (tie.spec
+    mul-base
     line-at-requires
     mul-line
     add-line

@@ -60,9 +60,6 @@ sub-power c =
     let l : at .place < 8 = c .before .before .loop-test .taken in
     given-rises (at .inv .0) (at .inv .3) (at .inv .2) l (at .inv .1)
 
-mul-burned-at : tie.Need-mul-burned-at Inv-loop μ-loop
-mul-burned-at c = omega arith
-
 burned-at-requires : tie.Need-burned-at-requires Inv-loop μ-loop
 unfolding setAt pastEnd
 burned-at-requires c κs =
@@ -150,7 +147,6 @@ count-quiet-spec =
     mul-upto-2
     div-upto
     sub-power
-    mul-burned-at
     burned-at-requires
     mul-energies
     slice-read-energies
