@@ -5,6 +5,8 @@ pub mod QuietLaws
 pub mod Steps
 pub mod QuietSteps
 pub mod Counting
+pub mod CurveFilled
+pub mod CurveRead
 pub mod Adding
 pub mod Owed
 pub mod QuietEnds

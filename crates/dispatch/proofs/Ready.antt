@@ -7,7 +7,7 @@ use mathlib.Core.List.{List, [], _∷_}
 use native.Mathlib.Omega.{arith}
 use native.Mathlib.Nat.{mul-le-mul, mul-le-mul-left, le-trans}
 use lib.Dec.{leb, ltb, eqb}
-use lib.ListN.{getD}
+use lib.ListN.{length, getD}
 use borrow.Author.Tests.{leb-true, ltb-true, ltb-false, eqb-true}
 use Rattle.rules.specs.declared.station.Control.{Control}
 use Rattle.rules.specs.declared.station.GenSet.{GenSet}
@@ -19,10 +19,10 @@ use Rattle.rules.specs.declared.run.Inputs.{Inputs}
 use Rattle.rules.specs.declared.run.Run.{Run}
 use Rattle.rules.specs.declared.run.Totals.{Totals}
 use Rattle.rules.specs.declared.run.Watts.{Watts}
-use Rattle.rules.specs.Numbers.{if_then_else_, all, every, allZero}
+use Rattle.rules.specs.Numbers.{if_then_else_, has, all, every, allZero}
 use Rattle.rules.specs.StationRecord.{setAt, setRight, pairsRight, someFileGives}
 use Rattle.rules.specs.Share.{capacity, share}
-use Rattle.rules.specs.Modes.{fresh, stateAt, isOff, isOn, tickFrom, tick, ticked}
+use Rattle.rules.specs.Modes.{fresh, stateAt, isOff, isOn, tickFrom, tick, ticked, onMask}
 use Rattle.rules.specs.Flows.{dieselFor, wattsWith, wattsFor, restOf}
 use Rattle.rules.specs.Setpoint.{coverageOf, reserve, wantedFor}
 use Rattle.rules.specs.Commands.{counted, countedAll}
@@ -37,8 +37,10 @@ use Rattle.laws.proofs.Balance.{load-met}
 use Rattle.laws.proofs.StationAt.{set-at}
 use Rattle.laws.proofs.KeptRest.{chosen-most, watts-small}
 use Rattle.laws.proofs.KeptSets.{Within, from-rules, tick-counts, off-only}
+use Rattle.modes.proofs.MaskLaws.{mask-has}
 use Rattle.gensets.proofs.FileCapacity.{rating-most, capacity-most}
 use Rattle.commitment.specs.Choice.{capacities, Rated}
+use Rattle.dispatch.specs.CurveTable.{InRule, Fillable}
 use Rattle.dispatch.specs.Sized.{Small, CountableAll, Wantable, Switchable, SwitchableAll, SmallTotals}
 
 -- ---- the counts of a set, by the seconds done
@@ -79,6 +81,11 @@ unfolding statePossible
 within-of true g s done h = from-rules g s done (both (modePossible g (s .mode)) (countsPossible g s done) h .1)
 within-of false g s done h = zero-within g s done (both (isOff (s .mode)) (allZero (s .run ∷ s .clock ∷ s .starts ∷ s .stops ∷ s .energy ∷ s .fuel ∷ [])) h .1)
 
+-- a set that the station has not is Off
+unused-off : (g : GenSet) (s : SetState) (done : ℕ) → statePossible false g s done ≡ true → s .mode ≡ Off
+unfolding statePossible
+unused-off g s done h = off-only (s .mode) (both (isOff (s .mode)) (allZero (s .run ∷ s .clock ∷ s .starts ∷ s .stops ∷ s .energy ∷ s .fuel ∷ [])) h .0)
+
 -- every set of a possible record
 module _ (st : Station) (given : someFileGives st ≡ true) (r : Run) (p : possible st r ≡ true) where
   asked-of : (i : ℕ) → getD (recordRules st r) i true ≡ true
@@ -94,11 +101,31 @@ module _ (st : Station) (given : someFileGives st ≡ true) (r : Run) (p : possi
       small-of (setAt (st .sets) i) (stateAt (r .sets) i) (r .done) (rating-most st given i) (leb-true _ _ (asked-of 0))
       (within-of (ltb i (st .setcount)) (setAt (st .sets) i) (stateAt (r .sets) i) (r .done) (at-place i l))
 
--- a set that the station has not is Off, and stays so
+  -- a set that is On is one of the station's
+  on-in-rule : Tables st → (i : ℕ) → i < 8 → isOn (stateAt (r .sets) i .mode) ≡ true → InRule (setAt (st .sets) i)
+  on-in-rule tables i l on = go (ltb i (st .setcount)) refl (at-place i l)
+    where
+      go : (b : Bool) → ltb i (st .setcount) ≡ b → statePossible b (setAt (st .sets) i) (stateAt (r .sets) i) (r .done) ≡ true → InRule (setAt (st .sets) i)
+      go true e h =
+          let right = set-at st tables (right-of st given) i (ltb-true i (st .setcount) e) in
+          record { numbers = right .0; pairs = right .1 }
+      go false e h =
+          let off : stateAt (r .sets) i .mode ≡ Off = unused-off (setAt (st .sets) i) (stateAt (r .sets) i) (r .done) h in
+          never (sym (ap isOn off) ∙ on)
+
+  pub fillable : Tables st → (on : ℕ) → on ≡ onMask (r .sets) → (sums lines : List ℕ) → length sums ≡ 8 → length lines ≡ 160 → Fillable (st .sets) on sums lines
+  unfolding onMask
+  fillable tables on e sums lines size room = record {
+    sums-length = size;
+    lines-length = room;
+    in-rule = λ i l h. on-in-rule tables i l (sym (mask-has (λ j. isOn (stateAt (r .sets) j .mode)) 8 i l) ∙ ap (λ (m : ℕ). has m i) (sym e) ∙ h);
+  }
+
+-- and stays so
 never-on : (g : GenSet) (s : SetState) (done : ℕ) → statePossible false g s done ≡ true → isOn (tick g s .mode) ≡ true → ⊥
-unfolding statePossible tick tickFrom
+unfolding tick tickFrom
 never-on g s done h on =
-    let off : s .mode ≡ Off = off-only (s .mode) (both (isOff (s .mode)) (allZero (s .run ∷ s .clock ∷ s .starts ∷ s .stops ∷ s .energy ∷ s .fuel ∷ [])) h .0) in
+    let off : s .mode ≡ Off = unused-off g s done h in
     let still : tickFrom g s (s .mode) ≡ s = ap (tickFrom g s) off in
     let e : isOn (tickFrom g s (s .mode) .mode) ≡ false = ap (λ (t : SetState). isOn (t .mode)) still ∙ ap isOn off in
     never (sym e ∙ on)

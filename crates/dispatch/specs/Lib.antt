@@ -3,6 +3,7 @@ pub mod Sized
 pub mod Parts
 pub mod Lasting
 pub mod Quiet
+pub mod CurveTable
 pub mod Supply
 pub mod Commit
 pub mod Seconds

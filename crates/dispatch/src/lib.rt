@@ -2,6 +2,7 @@
 mod commands;
 mod commit;
 mod counts;
+mod curve_table;
 mod lasting;
 mod parts;
 mod quiet;

@@ -2,60 +2,44 @@
 // stand as they were, and what is added to the sets On since stands beside them.
 ghost use mathlib.Core.Path.{_≡_};
 ghost use mathlib.Core.Bool.{true};
-ghost use Prim.Native.Nat.{_≤_};
-ghost use Rattle.rules.specs.StationRecord.{setRight, pairsRight};
-ghost use Rattle.rules.specs.Fuel.{fuelRate};
+ghost use Prim.Native.Nat.{_≤_, _<_};
 ghost use Rattle.dispatch.specs.Sized.{Small};
+ghost use Rattle.dispatch.specs.CurveTable.{Tabled};
 ghost use Rattle.dispatch.specs.Quiet.{ranFor, sinceQuiet, energiesAfter, fuelsAfter, Addable, Makeable};
 use crate::commands::has_set;
+use crate::curve_table::burned_at;
 use crate::lasting::waited;
-use gensets::fuel::fuel_rate;
-use rules::answers::Amount;
 use rules::run::SetState;
 use rules::station::GenSet;
-
-// What a set burns in a second at a power.
-fn burned(genset: GenSet, power: u32) -> u64
-    requires { ⌜ (setRight genset ≡ true) × (pairsRight genset ≡ true) × (power ≤ genset .rating) ⌝ }
-    ensures { λ r. ⌜ (r ≡ fuelRate genset power) × (r ≤ 15_000_000_000) ⌝ }
-{
-    let rate = fuel_rate(genset, power);
-    // never taken: a set that is On has a curve that some file gives
-    let Amount::Value(amount) = rate else {
-        return 0;
-    };
-    amount
-}
+use words::masks::next_set;
 
 // What a second adds to the counts of the mask's sets, each at its share of the diesel power.
 pub(crate) fn count_quiet(
     sets: [GenSet; 8],
+    sums: &[u64; 8],
+    lines: &[u64; 160],
     mask: u32,
     diesel: u32,
     cap: u64,
     energies: &mut [u64],
     fuels: &mut [u64],
 )
-    requires { ⌜ Addable sets mask diesel cap (now energies) (now fuels) ⌝ }
+    requires { ⌜ Addable sets mask diesel cap (now energies) (now fuels) × Tabled sets mask (now sums) (now lines) ⌝ }
     ensures { λ r. ⌜ (now (energies .exit) ≡ energiesAfter sets mask diesel (now (energies .entry))) × (now (fuels .exit) ≡ fuelsAfter sets mask diesel (now (fuels .entry))) ⌝ }
 {
-    let mut sum: u64 = 0;
     let mut given: u64 = 0;
-    let mut i: usize = 0;
-    while i < 8 {
-        let at = i;
-        i += 1;
-        if has_set(mask, at) {
-            let genset = sets[at];
-            sum += genset.rating as u64;
-            // each less what the sets before it took: rounded alone, the shares would miss the diesel power
-            let upto = (diesel as u64) * sum / cap;
-            let power = (upto - given) as u32;
-            given = upto;
-            let burns = burned(genset, power);
-            energies[at] = energies[at] + power as u64;
-            fuels[at] = fuels[at] + burns;
-        }
+    let mut place = next_set(mask, 0);
+    while place < 8 {
+        let at = place as usize;
+        let genset = sets[at];
+        // each less what the sets before it took: rounded alone, the shares would miss the diesel power
+        let upto = (diesel as u64) * sums[at] / cap;
+        let power = upto - given;
+        given = upto;
+        let burns = burned_at(genset, at, lines, power);
+        energies[at] = energies[at] + power;
+        fuels[at] = fuels[at] + burns;
+        place = next_set(mask, place + 1);
     }
 }
 

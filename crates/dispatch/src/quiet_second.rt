@@ -6,6 +6,7 @@ ghost use Rattle.rules.specs.StationRecord.{someFileGives};
 ghost use Rattle.rules.specs.RunRecord.{possible};
 ghost use Rattle.rules.specs.Second.{Second};
 ghost use Rattle.commitment.specs.Choice.{Rated};
+ghost use Rattle.dispatch.specs.CurveTable.{Tabled};
 ghost use Rattle.dispatch.specs.Parts.{runOf};
 ghost use Rattle.dispatch.specs.Quiet.{sinceQuiet};
 ghost use Rattle.dispatch.specs.QuietSecond.{Calm, quietHanded};
@@ -38,8 +39,10 @@ pub(crate) fn quiet_second(
     energies: &mut [u64],
     fuels: &mut [u64],
     row: &mut [u8],
+    sums: &[u64; 8],
+    lines: &[u64; 160],
 ) -> QuietJudged
-    requires { ⌜ Calm st base quiet ran × (someFileGives st ≡ true) × (possible st (runOf moment (sinceQuiet base (quiet .on) ran (now energies) (now fuels)) (now decided)) ≡ true) × Rated (st .sets) (st .configs) (now caps) × (length (now decided) ≡ 60) × (length (now energies) ≡ 8) × (length (now fuels) ≡ 8) ⌝ }
+    requires { ⌜ Calm st base quiet ran × (someFileGives st ≡ true) × (possible st (runOf moment (sinceQuiet base (quiet .on) ran (now energies) (now fuels)) (now decided)) ≡ true) × Rated (st .sets) (st .configs) (now caps) × (length (now decided) ≡ 60) × (length (now energies) ≡ 8) × (length (now fuels) ≡ 8) × Tabled (st .sets) (quiet .on) (now sums) (now lines) ⌝ }
     ensures { λ r. ⌜ Second st (runOf moment (sinceQuiet base (quiet .on) ran (now (energies .entry)) (now (fuels .entry))) (now (decided .entry))) inputs (now (row .entry)) (quietHanded st base quiet ran (now (energies .exit)) (now (fuels .exit)) (now (decided .exit)) r) (now (row .exit)) ⌝ }
 {
     let verdict = admit(moment.done, inputs, row.len());
@@ -60,6 +63,8 @@ pub(crate) fn quiet_second(
         decided,
         energies,
         fuels,
+        sums,
+        lines,
     );
     let next = worked.moment;
     let line = worked.row;

@@ -8,6 +8,7 @@ ghost use Rattle.dispatch.specs.Going.{GoesOn};
 ghost use Rattle.dispatch.specs.Parts.{runOf};
 ghost use Rattle.dispatch.specs.QuietSecond.{Kept, Following, Quietly};
 use crate::commands::command_all;
+use crate::curve_table::fill_tables;
 use crate::lasting::lasting;
 use crate::lasting::unmoved_all;
 use crate::parts::Moment;
@@ -84,6 +85,9 @@ fn quiet_seconds(
     let mut energies = [0u64; 8];
     let mut fuels = [0u64; 8];
     let last = last_quiet(asked, from, lasting(sets, states));
+    let mut sums = [0u64; 8];
+    let mut lines = [0u64; 160];
+    fill_tables(sets, on, &mut sums, &mut lines);
     let quiet = kept(st, states, on, called);
     let walked = quiet_walk(
         st,
@@ -101,6 +105,8 @@ fn quiet_seconds(
         &mut energies,
         &mut fuels,
         rows,
+        &sums,
+        &lines,
     );
     let after = walked.moment;
     let ran = made(states, quiet.on, walked.ran, &energies, &fuels);

@@ -3,6 +3,7 @@ ghost use mathlib.Core.Path.{_≡_};
 ghost use lib.ListN.{length};
 ghost use Rattle.laws.specs.Admitted.{Admitted};
 ghost use Rattle.commitment.specs.Choice.{Rated};
+ghost use Rattle.dispatch.specs.CurveTable.{Tabled};
 ghost use Rattle.dispatch.specs.Parts.{runOf, SteppedTo};
 ghost use Rattle.dispatch.specs.Quiet.{sinceQuiet};
 ghost use Rattle.dispatch.specs.QuietSecond.{Calm, quietStepped};
@@ -49,8 +50,10 @@ pub(crate) fn quiet_step(
     decided: &mut [u32],
     energies: &mut [u64],
     fuels: &mut [u64],
+    sums: &[u64; 8],
+    lines: &[u64; 160],
 ) -> QuietStepped
-    requires { ⌜ Calm st base quiet ran × Admitted st (runOf moment (sinceQuiet base (quiet .on) ran (now energies) (now fuels)) (now decided)) inputs × Rated (st .sets) (st .configs) (now caps) × (length (now decided) ≡ 60) × (length (now energies) ≡ 8) × (length (now fuels) ≡ 8) ⌝ }
+    requires { ⌜ Calm st base quiet ran × Admitted st (runOf moment (sinceQuiet base (quiet .on) ran (now energies) (now fuels)) (now decided)) inputs × Rated (st .sets) (st .configs) (now caps) × (length (now decided) ≡ 60) × (length (now energies) ≡ 8) × (length (now fuels) ≡ 8) × Tabled (st .sets) (quiet .on) (now sums) (now lines) ⌝ }
     ensures { λ r. ⌜ SteppedTo st (runOf moment (sinceQuiet base (quiet .on) ran (now (energies .entry)) (now (fuels .entry))) (now (decided .entry))) inputs (quietStepped st base quiet ran (now (energies .exit)) (now (fuels .exit)) r) (now (decided .exit)) ⌝ }
 {
     let control = st.control;
@@ -80,6 +83,8 @@ pub(crate) fn quiet_step(
     decide(control.delay, new, decided);
     count_quiet(
         sets,
+        sums,
+        lines,
         quiet.on,
         watts.diesel,
         quiet.cap as u64,
@@ -89,14 +94,14 @@ pub(crate) fn quiet_step(
     let wanted = wanted_now(control, watts, inputs.sheddable);
     let held = held_after(control.k, setpoint, wanted);
     let call = chosen(st, caps, quiet.barred, held, called, since, done);
-    let sums = plus(totals, watts);
+    let added = plus(totals, watts);
     let next = Moment {
         done: done + 1,
         since: since_after(call, called, since, done),
         called: call,
         store: flows.store,
         setpoint: Held::At(held),
-        totals: sums,
+        totals: added,
     };
     let row = Row {
         second: done,

@@ -2,6 +2,7 @@
 ghost use Rattle.rules.specs.Configuration.{maskCalled};
 ghost use Rattle.rules.specs.Commands.{commandedAll};
 ghost use Rattle.commitment.specs.Choice.{Rated};
+ghost use Rattle.dispatch.specs.CurveTable.{Tabled};
 ghost use Rattle.dispatch.specs.Going.{GoesOn};
 ghost use Rattle.dispatch.specs.Parts.{runOf};
 ghost use Rattle.dispatch.specs.Quiet.{sinceQuiet};
@@ -39,8 +40,10 @@ pub(crate) fn quiet_walk(
     energies: &mut [u64],
     fuels: &mut [u64],
     rows: &mut [u8],
+    sums: &[u64; 8],
+    lines: &[u64; 160],
 ) -> Walked
-    requires { ⌜ Walkable st base quiet start (now loads) (now solars) (now sheddables) last from lent (now decided) (now energies) (now fuels) (now rows) × Rated (st .sets) (st .configs) (now caps) ⌝ }
+    requires { ⌜ Walkable st base quiet start (now loads) (now solars) (now sheddables) last from lent (now decided) (now energies) (now fuels) (now rows) × Rated (st .sets) (st .configs) (now caps) × Tabled (st .sets) (quiet .on) (now sums) (now lines) ⌝ }
     ensures { λ r. ⌜ GoesOn st (now (loads .entry)) (now (solars .entry)) (now (sheddables .entry)) (now (rows .entry)) (runOf start (sinceQuiet base (quiet .on) 0 (now (energies .entry)) (now (fuels .entry))) (now (decided .entry))) lent from (now (rows .exit)) (runOf (r .moment) (commandedAll (st .sets) (sinceQuiet base (quiet .on) (r .ran) (now (energies .exit)) (now (fuels .exit))) (maskCalled (st .configs) (r .moment .called))) (now (decided .exit))) (r .at) (r .next) ⌝ }
 {
     let configs = st.configs;
@@ -66,6 +69,8 @@ pub(crate) fn quiet_walk(
             energies,
             fuels,
             &mut rows[at..],
+            sums,
+            lines,
         );
         let answer = handed.answer;
         match answer {

@@ -44,22 +44,24 @@ module _ (g : GenSet) (power : ℕ) where
 
 -- ---- a set whose checks passed
 
-module _ (g : GenSet) (numbers : setRight g ≡ true) (pairs : pairsRight g ≡ true) (power : ℕ) where
-  pub line-passes : lineRight g (lowerPoint g power) ≡ true
+module _ (g : GenSet) (numbers : setRight g ≡ true) (pairs : pairsRight g ≡ true) where
+  -- every line that its curve has
+  pub line-inside : (j : ℕ) → suc j < g .points → lineRight g j ≡ true
   unfolding lineRight
-  line-passes =
-      let j : ℕ = lowerPoint g power in
-      let inside : suc j < g .points = lower-inside g numbers power in
+  line-inside j inside =
       let here = pair-at g pairs j (omega (arith, inside, points-range g numbers .1)) in
       let next = pair-at g pairs (suc j) (omega (arith, inside, points-range g numbers .1)) in
       let rated = fact-within 1 10_000_000 (g .rating) (rating-range g numbers .0) (rating-range g numbers .1) in
       let rising = lt-ltb (loadAt g j) (loadAt g (suc j)) (loads-rise g numbers pairs j inside) in
       and-true (and-true (and-true (and-true rated rising) (le-leb (loadAt g (suc j)) 1_500 (next .0))) (le-leb (rateAt g j) 10_000_000 (here .1))) (le-leb (rateAt g (suc j)) 10_000_000 (next .1))
 
-  pub rate-accepted : power ≤ 2 * g .rating → rateOfSet g power ≡ accepted (fuelRate g power)
+  pub line-passes : (power : ℕ) → lineRight g (lowerPoint g power) ≡ true
+  line-passes power = line-inside (lowerPoint g power) (lower-inside g numbers power)
+
+  pub rate-accepted : (power : ℕ) → power ≤ 2 * g .rating → rateOfSet g power ≡ accepted (fuelRate g power)
   unfolding fuelRate
-  rate-accepted h =
-      sym (rate-given g power (points-range g numbers .0) (points-range g numbers .1) (lowerPoint g power) refl line-passes h)
+  rate-accepted power h =
+      sym (rate-given g power (points-range g numbers .0) (points-range g numbers .1) (lowerPoint g power) refl (line-passes power) h)
 
 -- ---- a station that some file gives
 

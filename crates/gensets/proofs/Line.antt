@@ -38,7 +38,7 @@ module _ (g : GenSet) (j : ℕ) (right : lineRight g j ≡ true) where
   pub width-some : 0 < g .rating * stepAt g j
   width-some = mul-pos (rated .0) (omega (arith, rising))
 
-  width-most : g .rating * stepAt g j ≤ 15_000_000_000
+  pub width-most : g .rating * stepAt g j ≤ 15_000_000_000
   width-most = mul-le-mul {n₂ = 10_000_000} {m₂ = 1_500} (rated .1) (omega (arith, load-most))
 
   -- the first point's rate, in that scale

@@ -44,7 +44,7 @@ enum-told c = search needs
 quiet-step-requires : tie.Need-quiet-step-requires
 quiet-step-requires c κs =
     let start = c .before .before .before .before .before .before .before .before .before .before in
-    (start .pre .0, is-admitted (start .args .st) (runOf (start .args .moment) (sinceQuiet (start .args .base) (start .args .quiet .on) (start .args .ran) (now (start .args .energies)) (now (start .args .fuels))) (now (start .args .decided))) (start .args .inputs) (now (start .args .row)) (start .pre .1) (start .pre .2) _ (c .before .before .before .before .before .admit .ensures) (c .before .before .before .enum-told .given .1), start .pre .3, start .pre .4, start .pre .5, start .pre .6)
+    (start .pre .0, is-admitted (start .args .st) (runOf (start .args .moment) (sinceQuiet (start .args .base) (start .args .quiet .on) (start .args .ran) (now (start .args .energies)) (now (start .args .fuels))) (now (start .args .decided))) (start .args .inputs) (now (start .args .row)) (start .pre .1) (start .pre .2) _ (c .before .before .before .before .before .admit .ensures) (c .before .before .before .enum-told .given .1), start .pre .3, start .pre .4, start .pre .5, start .pre .6, start .pre .7)
 
 put-row-requires : tie.Need-put-row-requires
 put-row-requires c κs = search needs

@@ -38,7 +38,7 @@ count-quiet-requires : tie.Need-count-quiet-requires
 count-quiet-requires c κs =
     let flowed = c .before .before .before .before .before .before .before .before .before in
     let start = flowed .before .before .before .before .before .before .before .before .before in
-    addable (start .args .st) (tables start) (start .args .base) (start .args .quiet) (start .args .ran) (start .pre .0) (start .args .moment) (now (start .args .energies)) (now (start .args .fuels)) (now (start .args .decided)) (start .args .inputs) (start .pre .1) _ (flowed .flow .ensures .0) (start .pre .4) (start .pre .5)
+    (addable (start .args .st) (tables start) (start .args .base) (start .args .quiet) (start .args .ran) (start .pre .0) (start .args .moment) (now (start .args .energies)) (now (start .args .fuels)) (now (start .args .decided)) (start .args .inputs) (start .pre .1) _ (flowed .flow .ensures .0) (start .pre .4) (start .pre .5), start .pre .6)
 
 wanted-now-requires : tie.Need-wanted-now-requires
 wanted-now-requires c κs =
@@ -57,16 +57,16 @@ plus-requires c κs =
     let start = c .before .before .before .before .before .before .before .before .before .before .before .before .before .before .before .before .before .before .before .before .before .before .before .before .before .before in
     small-totals (start .args .st) (tables start) (start .args .base) (start .args .quiet) (start .args .ran) (start .pre .0) (start .args .moment) (now (start .args .energies)) (now (start .args .fuels)) (now (start .args .decided)) (start .args .inputs) (start .pre .1)
 
-add-t29 : tie.Need-add-t29
-add-t29 c =
+add-t31 : tie.Need-add-t31
+add-t31 c =
     let start = c .before .before .before .before .before .before .before .before .before .before .before .before .before .before .before .before .before .before .before .before .before .before .before .before .before .before .before in
     record { fits = omega (arith, start .pre .1 .not-ended) }
 
 since-after-requires : tie.Need-since-after-requires
 since-after-requires c κs = search needs
 
-cast-t38 : tie.Need-cast-t38
-cast-t38 c =
+cast-t40 : tie.Need-cast-t40
+cast-t40 c =
     let choosing = c .before .before .before in
     let holding = choosing .before in
     let wanting = holding .before in
@@ -115,9 +115,9 @@ quiet-step-spec =
     held-after-requires
     chosen-requires
     plus-requires
-    add-t29
+    add-t31
     since-after-requires
-    cast-t38
+    cast-t40
     same-length
     same-length-2
     same-length-3

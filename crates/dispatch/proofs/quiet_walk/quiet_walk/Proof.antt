@@ -24,7 +24,7 @@ use Rattle.dispatch.proofs.quiet_walk.quiet_walk.Statement.{statement}
 use Rattle.dispatch.proofs.quiet_walk.quiet_walk.Tie as tie
 
 abbrev Inv-loop : tie.InvT-loop
-Inv-loop st caps base quiet loads solars sheddables last from lent decided₀ energies₀ fuels₀ rows₀ configs moment₀ at₀ next₀ ran₀ decided energies fuels rows moment at next ran =
+Inv-loop st caps base quiet loads solars sheddables last from lent decided₀ energies₀ fuels₀ rows₀ sums lines configs moment₀ at₀ next₀ ran₀ decided energies fuels rows moment at next ran =
     (GoesOn st loads solars sheddables rows₀ (runOf moment₀ (sinceQuiet base (quiet .on) 0 energies₀ fuels₀) decided₀) lent from rows (runOf moment (sinceQuiet base (quiet .on) ran energies fuels) decided) at next)
     × (maskCalled (st .configs) (moment .called) ≡ quiet .called)
     × (next ≡ from + ran)
@@ -36,7 +36,7 @@ Inv-loop st caps base quiet loads solars sheddables last from lent decided₀ en
     × (next ≤ last)
 
 abbrev μ-loop : tie.MeasureT-loop
-μ-loop st caps base quiet loads solars sheddables last from lent decided₀ energies₀ fuels₀ rows₀ configs moment₀ at₀ next₀ ran₀ decided energies fuels rows moment at next ran = last - next
+μ-loop st caps base quiet loads solars sheddables last from lent decided₀ energies₀ fuels₀ rows₀ sums lines configs moment₀ at₀ next₀ ran₀ decided energies fuels rows moment at next ran = last - next
 
 -- the station's tables have their lengths
 tables : (c : tie.Start Inv-loop μ-loop) → Tables (c .args .st)
@@ -67,38 +67,38 @@ loop-holds c =
     let pre = start .pre .0 in
     (record { going = λ rows₀ r₀ g. g; stays-possible = pre .was-possible; further = omega arith }, pre .called, omega arith, pre .room, refl, pre .sixty, pre .energies-length, pre .fuels-length, pre .from-last)
 
-mul-t26 : tie.Need-mul-t26 Inv-loop μ-loop
-mul-t26 c =
+mul-t28 : tie.Need-mul-t28 Inv-loop μ-loop
+mul-t28 c =
     let at-loop = c .before in
     let start = at-loop .before .before .before .before .before .before .before .before .before in
     let t = c .loop-test .taken in record { fits = omega (arith, start .pre .0 .in-range, inputs-length (now (start .args .loads)) (now (start .args .solars)) (now (start .args .sheddables)), start .good .1 .1 .1 .1 .1 .0 .0) }
 
-shared-slice-read-t28 : tie.Need-shared-slice-read-t28 Inv-loop μ-loop
-shared-slice-read-t28 c =
+shared-slice-read-t30 : tie.Need-shared-slice-read-t30 Inv-loop μ-loop
+shared-slice-read-t30 c =
     let at-loop = c .before .before in
     let start = at-loop .before .before .before .before .before .before .before .before .before in
     let t = c .before .loop-test .taken in omega (arith, start .pre .0 .in-range, inputs-length (now (start .args .loads)) (now (start .args .solars)) (now (start .args .sheddables)))
 
-mul-t29 : tie.Need-mul-t29 Inv-loop μ-loop
-mul-t29 c =
+mul-t31 : tie.Need-mul-t31 Inv-loop μ-loop
+mul-t31 c =
     let at-loop = c .before .before in
     let start = at-loop .before .before .before .before .before .before .before .before .before in
     let t = c .before .loop-test .taken in record { fits = omega (arith, start .pre .0 .in-range, inputs-length (now (start .args .loads)) (now (start .args .solars)) (now (start .args .sheddables)), start .good .1 .1 .1 .1 .1 .0 .0) }
 
-shared-slice-read-t31 : tie.Need-shared-slice-read-t31 Inv-loop μ-loop
-shared-slice-read-t31 c =
+shared-slice-read-t33 : tie.Need-shared-slice-read-t33 Inv-loop μ-loop
+shared-slice-read-t33 c =
     let at-loop = c .before .before .before in
     let start = at-loop .before .before .before .before .before .before .before .before .before in
     let t = c .before .before .loop-test .taken in omega (arith, start .pre .0 .in-range, inputs-length (now (start .args .loads)) (now (start .args .solars)) (now (start .args .sheddables)))
 
-mul-t32 : tie.Need-mul-t32 Inv-loop μ-loop
-mul-t32 c =
+mul-t34 : tie.Need-mul-t34 Inv-loop μ-loop
+mul-t34 c =
     let at-loop = c .before .before .before in
     let start = at-loop .before .before .before .before .before .before .before .before .before in
     let t = c .before .before .loop-test .taken in record { fits = omega (arith, start .pre .0 .in-range, inputs-length (now (start .args .loads)) (now (start .args .solars)) (now (start .args .sheddables)), start .good .1 .1 .1 .1 .1 .0 .0) }
 
-shared-slice-read-t34 : tie.Need-shared-slice-read-t34 Inv-loop μ-loop
-shared-slice-read-t34 c =
+shared-slice-read-t36 : tie.Need-shared-slice-read-t36 Inv-loop μ-loop
+shared-slice-read-t36 c =
     let at-loop = c .before .before .before .before in
     let start = at-loop .before .before .before .before .before .before .before .before .before in
     let t = c .before .before .before .loop-test .taken in omega (arith, start .pre .0 .in-range, inputs-length (now (start .args .loads)) (now (start .args .solars)) (now (start .args .sheddables)))
@@ -118,7 +118,7 @@ quiet-second-requires c κs =
     let start = at-loop .before .before .before .before .before .before .before .before .before in
     let t = c .before .before .before .before .before .before .before .loop-test .taken in
     let below : start .args .from + at-loop .loop .ran < start .args .last = omega (arith, at-loop .loop .inv .2) in
-    (start .pre .0 .calm (at-loop .loop .ran) below, start .pre .0 .file, at-loop .loop .inv .0 .stays-possible, start .pre .1, at-loop .loop .inv .5, at-loop .loop .inv .6, at-loop .loop .inv .7)
+    (start .pre .0 .calm (at-loop .loop .ran) below, start .pre .0 .file, at-loop .loop .inv .0 .stays-possible, start .pre .1, at-loop .loop .inv .5, at-loop .loop .inv .6, at-loop .loop .inv .7, start .pre .2)
 
 enum-known-answer : tie.Need-enum-known-answer Inv-loop μ-loop
 enum-known-answer c = search needs
@@ -280,12 +280,12 @@ quiet-walk-spec =
     Inv-loop
     μ-loop
     loop-holds
-    mul-t26
-    shared-slice-read-t28
-    mul-t29
-    shared-slice-read-t31
-    mul-t32
-    shared-slice-read-t34
+    mul-t28
+    shared-slice-read-t30
+    mul-t31
+    shared-slice-read-t33
+    mul-t34
+    shared-slice-read-t36
     sub-quiet-second
     part-quiet-second-start
     part-quiet-second-end
