@@ -20,7 +20,7 @@ use Rattle.samples.specs.declared.inputs.InputSource.{InputSource}
 use Rattle.samples.specs.declared.inputs.Filled.{Filled}
 use Rattle.samples.specs.declared.inputs.Reached.{Reached}
 use Rattle.samples.specs.Streamed.{yetToCome}
-use Rattle.samples.specs.Held.{rowsAhead, readerAt, sourceRows, isEnded, sourceEnded, sourceRefused, heldFrom, inputsIn, Onward, AtSecond, ReachedRight, HeldOn, placesOf, KeptFrom, FilledRight, Filling}
+use Rattle.samples.specs.Held.{rowsAhead, readerAt, sourceRows, sourceRefused, heldFrom, inputsIn, AtSecond, ReachedRight, placesOf, KeptFrom, FilledRight, Filling}
 use Rattle.samples.proofs.LineLaws.{drop-least}
 use Rattle.samples.proofs.HeldLaws.{held-next, held-none, onward-then, source-accepted}
 

@@ -1,9 +1,9 @@
 -- Usual rows, each later than the last, are counted one after the other. Assumes nothing.
-use Prim.Native.Nat.{ℕ, suc, min, _≤_}
-use mathlib.Core.Path.{_≡_, refl, ap, _∙_}
+use Prim.Native.Nat.{ℕ, suc, min}
+use mathlib.Core.Path.{refl, ap, _∙_}
 use mathlib.Core.List.{List, [], _++_}
 use native.Mathlib.Omega.{arith}
-use lib.ListN.{length, drop}
+use lib.ListN.{drop}
 use Rattle.rules.specs.declared.samples.Sample.{Sample}
 use Rattle.sheet.specs.declared.headings.Columns.{Columns}
 use Rattle.samples.specs.declared.stage.Stage.{Stage}

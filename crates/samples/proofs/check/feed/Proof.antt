@@ -25,42 +25,33 @@ Inv-loop chunk line len₀ stage₀ span₀ at₀ len stage span at = (at ≤ le
 abbrev μ-loop : tie.MeasureT-loop
 μ-loop chunk line len₀ stage₀ span₀ at₀ len stage span at = length chunk - at
 
--- src/check.rt:143:5
 loop-holds : tie.Need-loop-holds Inv-loop μ-loop
 loop-holds c = (omega arith, λ rest. refl)
 
--- src/check.rt:144:13
 usual-rows-at-requires : tie.Need-usual-rows-at-requires Inv-loop μ-loop
 usual-rows-at-requires c κs = search needs
 
--- src/check.rt:148:13
 next-row-requires : tie.Need-next-row-requires Inv-loop μ-loop
 next-row-requires c κs = search needs
 
 enum-told : tie.Need-enum-told Inv-loop μ-loop
 enum-told c = search needs
 
--- src/check.rt:154:40
 enum-told-2 : tie.Need-enum-told-2 Inv-loop μ-loop
 enum-told-2 c = search needs
 
--- src/check.rt:156:37
 sub-kept : tie.Need-sub-kept Inv-loop μ-loop
 sub-kept c = search needs
 
--- src/check.rt:156:37
 part-kept-start : tie.Need-part-kept-start Inv-loop μ-loop
 part-kept-start c = search needs
 
--- src/check.rt:156:37
 part-kept-end : tie.Need-part-kept-end Inv-loop μ-loop
 part-kept-end c = search needs
 
--- src/check.rt:156:25
 kept-requires : tie.Need-kept-requires Inv-loop μ-loop
 kept-requires c κs = search needs
 
--- src/check.rt:155:13
 returns : tie.Need-returns Inv-loop μ-loop
 unfolding checkedWith yetToCome
 returns c =
@@ -74,17 +65,14 @@ returns c =
     ∙ u .rows rest
     ∙ ap (spanned (c .before .before .before .before .before .before .before .usual-rows-at .result .span)) (rw e at (n .rows rest) ∙ kept-whole s (c .before .before .before .before .next-row .result .next) begun (c .kept .result) rest (n .further (ap isRow e)) (c .kept .ensures) ∙ at-end-of s (c .kept .result) rest)
 
--- src/check.rt:160:9
 counted-requires : tie.Need-counted-requires Inv-loop μ-loop
 counted-requires c κs = search needs
 
--- src/check.rt:143:5
 loop-less : tie.Need-loop-less Inv-loop μ-loop
 loop-less c =
     let n = c .before .before .before .next-row .ensures in
     omega (arith, n .onward (ap isRow (c .before .enum-told .given .1)), n .within, c .before .before .before .before .before .before .usual-rows-at .ensures (c .before .before .before .before .before .before .before .before .before .before .before .before .before .args .check .reader .line) .onward)
 
--- src/check.rt:143:5
 loop-again : tie.Need-loop-again Inv-loop μ-loop
 unfolding yetToCome
 loop-again c =
@@ -101,7 +89,6 @@ loop-again c =
           ∙ ap (λ (s : Span). spanned s (yetToCome after (left rest))) (sym (c .counted .ensures)),
     )
 
--- src/check.rt:134:1
 returns-2 : tie.Need-returns-2 Inv-loop μ-loop
 unfolding checkedWith
 returns-2 c = λ rest. rw (drop-of-length-le _ (c .loop-test .left)) at (c .before .loop .inv .1 rest)

@@ -21,35 +21,27 @@ Inv-loop columns last lines chunk at latest₀ line₀ rows₀ time₀ next₀ l
 abbrev μ-loop : tie.MeasureT-loop
 μ-loop columns last lines chunk at latest₀ line₀ rows₀ time₀ next₀ latest line rows time next = length chunk - next
 
--- src/check.rt:90:5
 loop-holds : tie.Need-loop-holds Inv-loop μ-loop
 loop-holds c = none-counted _ _ _ (c .before .args .chunk .now) _
 
--- src/check.rt:91:13
 usual-later-requires : tie.Need-usual-later-requires Inv-loop μ-loop
 usual-later-requires c κs = search needs
 
--- src/check.rt:92:24
 enum-known-usual : tie.Need-enum-known-usual Inv-loop μ-loop
 enum-known-usual c = search needs
 
--- src/check.rt:94:24
 enum-told : tie.Need-enum-told Inv-loop μ-loop
 enum-told c = search needs
 
--- src/check.rt:93:13
 returns : tie.Need-returns Inv-loop μ-loop
 returns c = c .before .before .before .before .loop .inv
 
--- src/check.rt:100:9
 next-line-requires : tie.Need-next-line-requires Inv-loop μ-loop
 next-line-requires c κs = search needs
 
--- src/check.rt:101:9
 next-line-requires-2 : tie.Need-next-line-requires-2 Inv-loop μ-loop
 next-line-requires-2 c κs = search needs
 
--- src/check.rt:90:5
 loop-less : tie.Need-loop-less Inv-loop μ-loop
 loop-less c =
     let a = c .before .before .before .before .before .before .before .before .before .args in
@@ -57,7 +49,6 @@ loop-less c =
     let u : UsualLater (a .columns) (c .before .before .before .before .before .before .before .loop .latest) (a .chunk .now) (c .before .before .before .before .before .before .before .loop .next) (usual .0 .0) (usual .0 .1 .0) = rw (usual .1) at (c .before .before .before .before .before .usual-later .ensures) in
     omega (arith, u .right .onward, u .right .within)
 
--- src/check.rt:90:5
 loop-again : tie.Need-loop-again Inv-loop μ-loop
 loop-again c =
     let a = c .before .before .before .before .before .before .before .before .before .args in
@@ -65,7 +56,6 @@ loop-again c =
     let u : UsualLater (a .columns) (c .before .before .before .before .before .before .before .loop .latest) (a .chunk .now) (c .before .before .before .before .before .before .before .loop .next) (usual .0 .0) (usual .0 .1 .0) = rw (usual .1) at (c .before .before .before .before .before .usual-later .ensures) in
     rw (c .before .next-line .ensures, c .next-line2 .ensures) (row-counted _ _ (a .chunk .now) _ (a .columns) (c .before .before .before .before .before .before .before .loop .latest) (c .before .before .before .before .before .before .before .loop .line) (c .before .before .before .before .before .before .before .loop .rows) (c .before .before .before .before .before .before .before .loop .time) (c .before .before .before .before .before .before .before .loop .next) (c .before .before .before .before .before .before .before .loop .inv) (usual .0 .0) (usual .0 .1 .0) u)
 
--- src/check.rt:75:1
 returns-2 : tie.Need-returns-2 Inv-loop μ-loop
 returns-2 c = c .before .loop .inv
 

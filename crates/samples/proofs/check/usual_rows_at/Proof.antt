@@ -8,23 +8,18 @@ use Rattle.samples.proofs.check.usual_rows_at.Reads as reads
 use Rattle.samples.proofs.check.usual_rows_at.Lts as lts
 use Rattle.samples.proofs.check.usual_rows.Reads as usual-rows-reads
 
--- src/check.rt:117:9
 returns : tie.Need-returns
 returns c = search needs
 
--- src/check.rt:123:26
 enum-known-stage : tie.Need-enum-known-stage
 enum-known-stage c = search needs
 
--- src/check.rt:124:9
 returns-2 : tie.Need-returns-2
 returns-2 c = search needs
 
--- src/check.rt:130:5
 usual-rows-requires : tie.Need-usual-rows-requires
 usual-rows-requires c κs = search needs
 
--- src/check.rt:113:1
 returns-3 : tie.Need-returns-3
 returns-3 c =
     let none : c .before .before .before .before .before .before .args .len ≡ 0 = omega (arith, c .before .before .before .before .if1 .left) in

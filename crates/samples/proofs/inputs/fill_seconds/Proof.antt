@@ -30,49 +30,38 @@ Inv-loop first chunk at loads₀ solars₀ sheddables₀ places line told₀ loa
 abbrev μ-loop : tie.MeasureT-loop
 μ-loop first chunk at loads₀ solars₀ sheddables₀ places line told₀ loads solars sheddables told = places - told .seconds
 
--- src/inputs.rt:270:38
 lesser-requires : tie.Need-lesser-requires Inv-loop μ-loop
 lesser-requires c κs = search needs
 
--- src/inputs.rt:270:9
 lesser-requires-2 : tie.Need-lesser-requires-2 Inv-loop μ-loop
 lesser-requires-2 c κs = search needs
 
--- src/inputs.rt:273:40
 lesser-requires-3 : tie.Need-lesser-requires-3 Inv-loop μ-loop
 lesser-requires-3 c κs = search needs
 
--- src/inputs.rt:273:9
 told-before-requires : tie.Need-told-before-requires Inv-loop μ-loop
 told-before-requires c κs = search needs
 
--- src/inputs.rt:274:5
 loop-holds : tie.Need-loop-holds Inv-loop μ-loop
 loop-holds c =
     let a = c .before .before .before .before .before .before .before .before .before .before .args in
     (rw (c .before .before .before .before .lesser2 .ensures .2, c .before .before .before .before .before .lesser .ensures .2), rw (c .told-before .ensures) (filling-start (a .source) (a .first) (a .chunk .now) (a .at) (a .loads .now) (a .solars .now) (a .sheddables .now) _ (c .before .lesser3 .ensures .2)))
 
--- src/inputs.rt:275:13
 usual-seconds-requires : tie.Need-usual-seconds-requires Inv-loop μ-loop
 usual-seconds-requires c κs = (c .before .before .before .before .before .before .before .before .before .before .before .before .before .before .before .before .pre .0, omega (arith, c .before .before .before .before .before .loop .inv .0, c .before .before .before .before .before .loop .inv .1 .keptLoads .size, c .before .before .before .before .before .loop .inv .1 .keptSolars .size, c .before .before .before .before .before .loop .inv .1 .keptSheddables .size))
 
--- src/inputs.rt:278:13
 filled-at-requires : tie.Need-filled-at-requires Inv-loop μ-loop
 filled-at-requires c κs = search needs
 
--- src/inputs.rt:278:13
 same-length : tie.Need-same-length Inv-loop μ-loop
 same-length c = c .before .before .before .before .before .before .before .before .usual-seconds .ensures .sameLoads ∙ c .before .before .before .before .before .before .before .before .before .before .before .before .before .before .loop .inv .1 .keptLoads .size
 
--- src/inputs.rt:278:13
 same-length-2 : tie.Need-same-length-2 Inv-loop μ-loop
 same-length-2 c = c .before .before .before .before .before .before .before .before .usual-seconds .ensures .sameSolars ∙ c .before .before .before .before .before .before .before .before .before .before .before .before .before .before .loop .inv .1 .keptSolars .size
 
--- src/inputs.rt:278:13
 same-length-3 : tie.Need-same-length-3 Inv-loop μ-loop
 same-length-3 c = c .before .before .before .before .before .before .before .before .usual-seconds .ensures .sameSheddables ∙ c .before .before .before .before .before .before .before .before .before .before .before .before .before .before .loop .inv .1 .keptSheddables .size
 
--- src/inputs.rt:278:13
 returns : tie.Need-returns Inv-loop μ-loop
 returns c =
     let a = c .before .before .before .before .before .before .before .before .before .before .before .before .before .before .before .before .before .before .before .before .before .before .before .before .before .args in
@@ -80,47 +69,36 @@ returns c =
     let g = c .before .before .before .before .before .before .before .before .usual-seconds .ensures .filling (a .source) (a .at) (a .loads .now) (a .solars .now) (a .sheddables .now) line (c .before .before .before .before .before .before .before .before .before .before .before .before .before .before .loop .inv .0) (rw (c .before .before .before .before .before .before .before .before .before .before .before .before .before .before .before .told-before .ensures) at (c .before .before .before .before .before .before .before .before .before .before .before .before .before .before .loop .inv .1)) in
     rw (c .filled-at .ensures) (filled (a .source) (a .first) (a .chunk .now) (a .at) (a .loads .now) (a .solars .now) (a .sheddables .now) _ _ _ _ g (c .before .before .before .before .before .before .before .before .before .before .before .before .before .before .before .before .before .before .before .before .before .before .before .before .before .pre .1) (omega (arith, c .before .if2 .taken, c .before .before .before .before .before .before .before .before .before .before .before .before .before .before .loop .inv .0)))
 
--- src/inputs.rt:286:13
 add-reach : tie.Need-add-reach Inv-loop μ-loop
 add-reach c = record { fits = omega (arith, c .before .before .before .before .before .before .before .before .before .before .before .before .before .before .before .before .before .before .before .before .before .before .before .before .before .pre .0, c .before .before .before .before .before .before .before .before .before .before .before .before .before .before .loop .inv .0, c .before .if2 .left, c .before .before .before .before .before .before .before .before .before .before .before .before .before .before .before .before .before .before .before .before .before .before .before .before .before .good .1 .1 .1 .1 .0) }
 
--- src/inputs.rt:281:13
 reach-requires : tie.Need-reach-requires Inv-loop μ-loop
 reach-requires c κs = search needs
 
--- src/inputs.rt:295:31
 reader-at-requires : tie.Need-reader-at-requires Inv-loop μ-loop
 reader-at-requires c κs = search needs
 
--- src/inputs.rt:295:55
 sub-kept : tie.Need-sub-kept Inv-loop μ-loop
 sub-kept c = search needs
 
--- src/inputs.rt:295:55
 part-kept-start : tie.Need-part-kept-start Inv-loop μ-loop
 part-kept-start c = search needs
 
--- src/inputs.rt:295:55
 part-kept-end : tie.Need-part-kept-end Inv-loop μ-loop
 part-kept-end c = search needs
 
--- src/inputs.rt:295:17
 kept-requires : tie.Need-kept-requires Inv-loop μ-loop
 kept-requires c κs = search needs
 
--- src/inputs.rt:296:13
 same-length-4 : tie.Need-same-length-4 Inv-loop μ-loop
 same-length-4 c = c .before .before .before .before .before .before .before .before .before .before .before .before .before .before .before .before .usual-seconds .ensures .sameLoads ∙ c .before .before .before .before .before .before .before .before .before .before .before .before .before .before .before .before .before .before .before .before .before .before .loop .inv .1 .keptLoads .size
 
--- src/inputs.rt:296:13
 same-length-5 : tie.Need-same-length-5 Inv-loop μ-loop
 same-length-5 c = c .before .before .before .before .before .before .before .before .before .before .before .before .before .before .before .before .usual-seconds .ensures .sameSolars ∙ c .before .before .before .before .before .before .before .before .before .before .before .before .before .before .before .before .before .before .before .before .before .before .loop .inv .1 .keptSolars .size
 
--- src/inputs.rt:296:13
 same-length-6 : tie.Need-same-length-6 Inv-loop μ-loop
 same-length-6 c = c .before .before .before .before .before .before .before .before .before .before .before .before .before .before .before .before .usual-seconds .ensures .sameSheddables ∙ c .before .before .before .before .before .before .before .before .before .before .before .before .before .before .before .before .before .before .before .before .before .before .loop .inv .1 .keptSheddables .size
 
--- src/inputs.rt:296:13
 returns-2 : tie.Need-returns-2 Inv-loop μ-loop
 returns-2 c =
     let a = c .before .before .before .before .before .before .before .before .before .before .before .before .before .before .before .before .before .before .before .before .before .before .before .before .before .before .before .before .before .before .before .before .before .args in
@@ -135,39 +113,30 @@ returns-2 c =
     ∙ kept-whole s (q .next) (c .before .before .reader-at .result) (c .kept .result) rest (c .before .before .before .before .before .before .before .reach .ensures .further told) (c .kept .ensures) ∙ at-end-of s (c .kept .result) rest in
     filled-short (a .source) (a .first) (a .chunk .now) (a .at) (a .loads .now) (a .solars .now) (a .sheddables .now) (filledAt usual line) _ _ _ g (usual .begun) line refl q (c .before .before .before .before .before .before .before .reach .ensures) (c .kept .result) keeps told (c .before .before .before .before .before .before .before .before .before .before .before .before .before .before .before .before .before .before .before .before .before .before .before .before .before .before .before .before .before .before .before .before .before .pre .1) (omega (arith, c .before .before .before .before .before .before .before .before .before .if2 .left, c .before .before .before .before .before .before .before .before .before .before .before .before .before .before .before .before .before .before .before .before .before .before .loop .inv .0))
 
--- src/inputs.rt:302:9
 mul-loads : tie.Need-mul-loads Inv-loop μ-loop
 mul-loads c = record { fits = omega (arith, c .before .before .before .before .before .before .if2 .left, c .before .before .before .before .before .before .before .before .before .before .before .before .before .before .before .before .before .before .before .loop .inv .0, c .before .before .before .before .before .before .before .before .before .before .before .before .before .before .before .before .before .before .before .before .before .before .before .before .before .before .before .before .before .before .good .1 .1 .1 .1 .0) }
 
--- src/inputs.rt:302:9
 slice-write-loads : tie.Need-slice-write-loads Inv-loop μ-loop
 slice-write-loads c = omega (arith, c .before .before .before .before .before .before .if2 .left, c .before .before .before .before .before .before .before .before .before .before .before .before .before .before .before .before .before .before .before .loop .inv .0, c .before .before .before .before .before .before .before .before .before .before .before .before .before .usual-seconds .ensures .sameLoads, c .before .before .before .before .before .before .before .before .before .before .before .before .before .before .before .before .before .before .before .loop .inv .1 .keptLoads .size)
 
--- src/inputs.rt:303:9
 mul-solars : tie.Need-mul-solars Inv-loop μ-loop
 mul-solars c = record { fits = omega (arith, c .before .before .before .before .before .before .if2 .left, c .before .before .before .before .before .before .before .before .before .before .before .before .before .before .before .before .before .before .before .loop .inv .0, c .before .before .before .before .before .before .before .before .before .before .before .before .before .before .before .before .before .before .before .before .before .before .before .before .before .before .before .before .before .before .good .1 .1 .1 .1 .0) }
 
--- src/inputs.rt:303:9
 slice-write-solars : tie.Need-slice-write-solars Inv-loop μ-loop
 slice-write-solars c = omega (arith, c .before .before .before .before .before .before .if2 .left, c .before .before .before .before .before .before .before .before .before .before .before .before .before .before .before .before .before .before .before .loop .inv .0, c .before .before .before .before .before .before .before .before .before .before .before .before .before .usual-seconds .ensures .sameSolars, c .before .before .before .before .before .before .before .before .before .before .before .before .before .before .before .before .before .before .before .loop .inv .1 .keptSolars .size)
 
--- src/inputs.rt:304:9
 mul-sheddables : tie.Need-mul-sheddables Inv-loop μ-loop
 mul-sheddables c = record { fits = omega (arith, c .before .before .before .before .before .before .if2 .left, c .before .before .before .before .before .before .before .before .before .before .before .before .before .before .before .before .before .before .before .loop .inv .0, c .before .before .before .before .before .before .before .before .before .before .before .before .before .before .before .before .before .before .before .before .before .before .before .before .before .before .before .before .before .before .good .1 .1 .1 .1 .0) }
 
--- src/inputs.rt:304:9
 slice-write-sheddables : tie.Need-slice-write-sheddables Inv-loop μ-loop
 slice-write-sheddables c = omega (arith, c .before .before .before .before .before .before .if2 .left, c .before .before .before .before .before .before .before .before .before .before .before .before .before .before .before .before .before .before .before .loop .inv .0, c .before .before .before .before .before .before .before .before .before .before .before .before .before .usual-seconds .ensures .sameSheddables, c .before .before .before .before .before .before .before .before .before .before .before .before .before .before .before .before .before .before .before .loop .inv .1 .keptSheddables .size)
 
--- src/inputs.rt:310:22
 add-seconds : tie.Need-add-seconds Inv-loop μ-loop
 add-seconds c = record { fits = omega (arith, c .before .before .before .before .before .before .if2 .left, c .before .before .before .before .before .before .before .before .before .before .before .before .before .before .before .before .before .before .before .loop .inv .0, c .before .before .before .before .before .before .before .before .before .before .before .before .before .before .before .before .before .before .before .before .before .before .before .before .before .before .before .before .before .before .good .1 .1 .1 .1 .0) }
 
--- src/inputs.rt:274:5
 loop-less : tie.Need-loop-less Inv-loop μ-loop
 loop-less c = omega (arith, c .before .before .before .before .before .before .if2 .left, c .before .before .before .before .before .before .before .before .before .before .before .before .before .usual-seconds .ensures .onward)
 
--- src/inputs.rt:274:5
 loop-again : tie.Need-loop-again Inv-loop μ-loop
 loop-again c =
     let a = c .before .before .before .before .before .before .before .before .before .before .before .before .before .before .before .before .before .before .before .before .before .before .before .before .before .before .before .before .before .before .args in
@@ -177,23 +146,18 @@ loop-again c =
     let g = c .before .before .before .before .before .before .before .before .before .before .before .before .before .usual-seconds .ensures .filling from (a .at) (a .loads .now) (a .solars .now) (a .sheddables .now) line (c .before .before .before .before .before .before .before .before .before .before .before .before .before .before .before .before .before .before .before .loop .inv .0) (c .before .before .before .before .before .before .before .before .before .before .before .before .before .before .before .before .before .before .before .loop .inv .1) in
     (c .before .before .before .before .before .before .before .before .before .before .before .before .before .before .before .before .before .before .before .loop .inv .0, filling-more from (a .first) (a .chunk .now) (a .at) (a .loads .now) (a .solars .now) (a .sheddables .now) (filledAt usual line) _ _ _ g (usual .begun) line refl (c .before .before .before .before .reach .result) (c .before .before .before .before .reach .ensures) (not-false _ (c .if3 .left)) (omega (arith, c .before .before .before .before .before .before .if2 .left, c .before .before .before .before .before .before .before .before .before .before .before .before .before .before .before .before .before .before .before .loop .inv .0)))
 
--- src/inputs.rt:313:5
 filled-at-requires-2 : tie.Need-filled-at-requires-2 Inv-loop μ-loop
 filled-at-requires-2 c κs = search needs
 
--- src/inputs.rt:258:1
 same-length-7 : tie.Need-same-length-7 Inv-loop μ-loop
 same-length-7 c = c .before .before .before .loop .inv .1 .keptLoads .size
 
--- src/inputs.rt:258:1
 same-length-8 : tie.Need-same-length-8 Inv-loop μ-loop
 same-length-8 c = c .before .before .before .loop .inv .1 .keptSolars .size
 
--- src/inputs.rt:258:1
 same-length-9 : tie.Need-same-length-9 Inv-loop μ-loop
 same-length-9 c = c .before .before .before .loop .inv .1 .keptSheddables .size
 
--- src/inputs.rt:258:1
 returns-3 : tie.Need-returns-3 Inv-loop μ-loop
 returns-3 c =
     let a = c .before .before .before .before .before .before .before .before .before .before .before .before .before .before .args in

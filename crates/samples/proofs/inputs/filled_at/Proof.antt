@@ -6,11 +6,9 @@ use Rattle.samples.proofs.inputs.filled_at.Reads as reads
 use Rattle.samples.proofs.inputs.filled_at.Lts as lts
 use Rattle.samples.proofs.inputs.reader_at.Reads as reader-at-reads
 
--- src/inputs.rt:249:9
 reader-at-requires : tie.Need-reader-at-requires
 reader-at-requires c κs = search needs
 
--- src/inputs.rt:243:1
 returns : tie.Need-returns
 returns c = rw (c .reader-at .ensures)
 

@@ -26,19 +26,15 @@ Inv-loop line len chunk at latest₀ begun₀ next₀ latest begun next =
 abbrev μ-loop : tie.MeasureT-loop
 μ-loop line len chunk at latest₀ begun₀ next₀ latest begun next = length chunk - next
 
--- src/reader.rt:223:9
 lesser-requires : tie.Need-lesser-requires Inv-loop μ-loop
 lesser-requires c κs = search needs
 
--- src/reader.rt:224:5
 loop-holds : tie.Need-loop-holds Inv-loop μ-loop
 loop-holds c = (omega (arith, c .lesser .ensures .1), omega (arith, c .lesser .ensures .2), λ rest. rw (c .lesser .ensures .2, drop-least (c .before .before .args .at) (c .before .before .args .chunk .now)))
 
--- src/reader.rt:225:13
 line-at-requires : tie.Need-line-at-requires Inv-loop μ-loop
 line-at-requires c κs = search needs
 
--- src/reader.rt:227:13
 returns : tie.Need-returns Inv-loop μ-loop
 returns c =
     let i = c .before .before .before .before .loop .inv in
@@ -47,11 +43,9 @@ returns c =
 enum-told : tie.Need-enum-told Inv-loop μ-loop
 enum-told c = search needs
 
--- src/reader.rt:224:5
 loop-less : tie.Need-loop-less Inv-loop μ-loop
 loop-less c = let e = c .before .before .before .before .line-at .ensures .onward (not-false _ (c .before .before .if1 .left)) in omega (arith, e, c .before .before .before .before .line-at .ensures .within)
 
--- src/reader.rt:224:5
 loop-again : tie.Need-loop-again Inv-loop μ-loop
 loop-again c =
     let i = c .before .before .before .before .before .before .loop .inv in
@@ -59,11 +53,9 @@ loop-again c =
     let o = c .before .before .before .before .line-at .ensures .onward e in
     (c .before .before .before .before .line-at .ensures .within, omega (arith, o, i .1), λ rest. i .2 rest ∙ (rw (c .enum-told .given .1) at (c .before .before .before .before .line-at .ensures .line e rest)))
 
--- src/reader.rt:239:13
 enum-told-2 : tie.Need-enum-told-2 Inv-loop μ-loop
 enum-told-2 c = search needs
 
--- src/reader.rt:239:13
 returns-2 : tie.Need-returns-2 Inv-loop μ-loop
 returns-2 c =
     let i = c .before .before .before .before .before .before .loop .inv in
@@ -77,7 +69,6 @@ returns-2 c =
       further = λ none. never (sym (rw (c .enum-told2 .given .1) at none));
     }
 
--- src/reader.rt:212:1
 returns-3 : tie.Need-returns-3 Inv-loop μ-loop
 returns-3 c =
     let i = c .before .loop .inv in

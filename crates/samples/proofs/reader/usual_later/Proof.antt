@@ -8,27 +8,21 @@ use Rattle.samples.proofs.reader.usual_later.Reads as reads
 use Rattle.samples.proofs.reader.usual_later.Lts as lts
 use Rattle.sheet.proofs.usual.usual_row.Reads as usual-row-reads
 
--- src/reader.rt:286:9
 usual-row-requires : tie.Need-usual-row-requires
 usual-row-requires c κs = search needs
 
--- src/reader.rt:287:20
 enum-known-usual : tie.Need-enum-known-usual
 enum-known-usual c = search needs
 
--- src/reader.rt:288:9
 enum-told : tie.Need-enum-told
 enum-told c = search needs
 
--- src/reader.rt:288:9
 returns : tie.Need-returns
 returns c = search needs
 
--- src/reader.rt:291:9
 returns-2 : tie.Need-returns-2
 returns-2 c = search needs
 
--- src/reader.rt:283:1
 returns-3 : tie.Need-returns-3
 returns-3 c =
     let a = c .before .before .before .before .before .before .before .args in

@@ -9,47 +9,36 @@ use Rattle.samples.proofs.usual_seconds.usual_seconds.Reads as reads
 use Rattle.samples.proofs.usual_seconds.usual_seconds.Lts as lts
 use Rattle.samples.proofs.usual_seconds.fill_usual.Reads as fill-usual-reads
 
--- src/usual_seconds.rt:120:26
 enum-known-stage : tie.Need-enum-known-stage
 enum-known-stage c = search needs
 
--- src/usual_seconds.rt:121:9
 returns : tie.Need-returns
 returns c = none-told _ _ _ (c .before .before .before .before .before .before .before .args .chunk .now) (c .before .before .before .before .before .before .before .args .loads .now) (c .before .before .before .before .before .before .before .args .solars .now) (c .before .before .before .before .before .before .before .args .sheddables .now)
 
--- src/usual_seconds.rt:123:21
 enum-known-ahead : tie.Need-enum-known-ahead
 enum-known-ahead c = search needs
 
--- src/usual_seconds.rt:124:9
 returns-2 : tie.Need-returns-2
 returns-2 c = none-told _ _ _ (c .before .before .before .before .before .before .before .before .before .before .args .chunk .now) (c .before .before .before .before .before .before .before .before .before .before .args .loads .now) (c .before .before .before .before .before .before .before .before .before .before .args .solars .now) (c .before .before .before .before .before .before .before .before .before .before .args .sheddables .now)
 
--- src/usual_seconds.rt:127:9
 returns-3 : tie.Need-returns-3
 returns-3 c = none-told _ _ _ (c .before .before .before .before .before .before .before .before .before .before .before .before .before .before .args .chunk .now) (c .before .before .before .before .before .before .before .before .before .before .before .before .before .before .args .loads .now) (c .before .before .before .before .before .before .before .before .before .before .before .before .before .before .args .solars .now) (c .before .before .before .before .before .before .before .before .before .before .before .before .before .before .args .sheddables .now)
 
--- src/usual_seconds.rt:130:9
 returns-4 : tie.Need-returns-4
 returns-4 c = none-told _ _ _ (c .before .before .before .before .before .before .before .before .before .before .before .before .before .before .before .before .args .chunk .now) (c .before .before .before .before .before .before .before .before .before .before .before .before .before .before .before .before .args .loads .now) (c .before .before .before .before .before .before .before .before .before .before .before .before .before .before .before .before .args .solars .now) (c .before .before .before .before .before .before .before .before .before .before .before .before .before .before .before .before .args .sheddables .now)
 
--- src/usual_seconds.rt:132:5
 fill-usual-requires : tie.Need-fill-usual-requires
 fill-usual-requires c κs = search needs
 
--- src/usual_seconds.rt:107:1
 same-length : tie.Need-same-length
 same-length c = c .before .before .before .before .before .before .fill-usual .ensures .sameLoads
 
--- src/usual_seconds.rt:107:1
 same-length-2 : tie.Need-same-length-2
 same-length-2 c = c .before .before .before .before .before .before .fill-usual .ensures .sameSolars
 
--- src/usual_seconds.rt:107:1
 same-length-3 : tie.Need-same-length-3
 same-length-3 c = c .before .before .before .before .before .before .fill-usual .ensures .sameSheddables
 
--- src/usual_seconds.rt:107:1
 returns-5 : tie.Need-returns-5
 returns-5 c =
     let t = c .before .before .before .before .before .before .before .before .before .before .before .before .before .before .before .before .before .before .before .before .before .before .before .before .before .before .args .told in
