@@ -20,7 +20,7 @@ use Rattle.samples.specs.declared.inputs.InputSource.{InputSource}
 use Rattle.samples.specs.declared.inputs.Filled.{Filled}
 use Rattle.samples.specs.declared.inputs.Reached.{Reached}
 use Rattle.samples.specs.Streamed.{yetToCome}
-use Rattle.samples.specs.Held.{rowsAhead, readerAt, sourceRows, isEnded, sourceEnded, sourceRefused, heldFrom, inputsIn, Onward, AtSecond, ReachedRight, HeldOn, placesOf, KeptFrom, FilledRight}
+use Rattle.samples.specs.Held.{rowsAhead, readerAt, sourceRows, sourceRefused, heldFrom, inputsIn, AtSecond, ReachedRight, placesOf, KeptFrom, FilledRight, Filling}
 use Rattle.samples.proofs.LineLaws.{drop-least}
 use Rattle.samples.proofs.HeldLaws.{held-next, held-none, onward-then, source-accepted}
 
@@ -62,19 +62,7 @@ module _ (s : InputSource) (second : ℕ) (chunk : List ℕ) (at : ℕ) (loads�
   abbrev places : ℕ
   places = placesOf loads₀ solars₀ sheddables₀
 
-  -- where the loop is, with what it would hand back
-  pub record Filling (r : Filled) (loads solars sheddables : List ℕ) : Type 0 where
-    pub inputs : (rest : List ℕ) (rows : List Sample) → sourceRows s (drop at chunk ++ rest) ≡ accepted rows
-        → HeldOn (s .now) rows second r (drop (r .next) chunk ++ rest) loads solars sheddables
-    pub within : r .next ≤ length chunk
-    pub onward : min at (length chunk) ≤ r .next
-    pub most : r .seconds ≤ places
-    pub ended : sourceEnded (r .source) ≡ sourceEnded s
-    pub keptLoads : KeptFrom (r .seconds) loads₀ loads
-    pub keptSolars : KeptFrom (r .seconds) solars₀ solars
-    pub keptSheddables : KeptFrom (r .seconds) sheddables₀ sheddables
-
-  pub filling-start : (next : ℕ) → next ≡ min at (length chunk) → Filling (record { source = s; next = next; seconds = 0 }) loads₀ solars₀ sheddables₀
+  pub filling-start : (next : ℕ) → next ≡ min at (length chunk) → Filling s second chunk at loads₀ solars₀ sheddables₀ (record { source = s; next = next; seconds = 0 }) loads₀ solars₀ sheddables₀
   filling-start next e = record {
     inputs = λ rest rows h. record {
       others = rows;
@@ -93,7 +81,7 @@ module _ (s : InputSource) (second : ℕ) (chunk : List ℕ) (at : ℕ) (loads�
     keptSheddables = kept-none 0 sheddables₀;
   }
 
-  module _ (r : Filled) (loads solars sheddables : List ℕ) (g : Filling r loads solars sheddables) where
+  module _ (r : Filled) (loads solars sheddables : List ℕ) (g : Filling s second chunk at loads₀ solars₀ sheddables₀ r loads solars sheddables) where
     -- every place has its second
     pub filled : sourceRefused s ≡ false → places ≤ r .seconds → FilledRight s second chunk at loads₀ solars₀ sheddables₀ r loads solars sheddables
     filled live h = record {
@@ -163,7 +151,7 @@ module _ (s : InputSource) (second : ℕ) (chunk : List ℕ) (at : ℕ) (loads�
 
       -- one second more
       pub filling-more : q .told ≡ true → r .seconds < places
-          → Filling (record { source = after; next = q .next; seconds = r .seconds + 1 }) (set loads (r .seconds) (q .now .load)) (set solars (r .seconds) (q .now .solar)) (set sheddables (r .seconds) (q .now .sheddable))
+          → Filling s second chunk at loads₀ solars₀ sheddables₀ (record { source = after; next = q .next; seconds = r .seconds + 1 }) (set loads (r .seconds) (q .now .load)) (set solars (r .seconds) (q .now .solar)) (set sheddables (r .seconds) (q .now .sheddable))
       filling-more u h = record {
         inputs = λ rest rows a. record {
           others = here rest rows a .others;

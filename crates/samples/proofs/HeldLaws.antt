@@ -36,7 +36,7 @@ pub not-accepted : {A B : Type 0} (number place : ℕ) (b : A) → _≡_ {A = An
 not-accepted number place b e = absurd (let z : _≡_ {A = ℕ} 0 1 = cc in omega arith)
 
 -- a row that has come into force is held from then on
-in-force : (now x : Sample) (rows : List Sample) (t n : ℕ) → x .at ≤ t → heldFrom now (x ∷ rows) t n ≡ heldFrom x rows t n
+pub in-force : (now x : Sample) (rows : List Sample) (t n : ℕ) → x .at ≤ t → heldFrom now (x ∷ rows) t n ≡ heldFrom x rows t n
 unfolding heldFrom holding
 in-force now x rows t zero h = refl
 in-force now x rows t (suc n) h =
@@ -48,7 +48,7 @@ none-to-come : (now : Sample) (t : ℕ) → holding now [] t ≡ now
 unfolding holding
 none-to-come now t = refl
 
-before-next : (now x : Sample) (rows : List Sample) (t : ℕ) → leb (x .at) t ≡ false → holding now (x ∷ rows) t ≡ now
+pub before-next : (now x : Sample) (rows : List Sample) (t : ℕ) → leb (x .at) t ≡ false → holding now (x ∷ rows) t ≡ now
 unfolding holding
 before-next now x rows t h = rw h
 

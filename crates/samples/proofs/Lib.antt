@@ -9,4 +9,6 @@ pub mod ChunkLaws
 pub mod Chunks
 pub mod HeldLaws
 pub mod FillLaws
+pub mod UsualRows
+pub mod UsualSeconds
 pub mod RowsRight

@@ -14,6 +14,8 @@ use Rattle.rules.specs.Bytes.{LF}
 use Rattle.rules.specs.Answers.{Answer, accepted, refused, refusalOf}
 use Rattle.rules.specs.SampleFile.{holding}
 use Rattle.rules.specs.Run.{inputsOf}
+use Rattle.sheet.specs.declared.headings.Columns.{Columns}
+use Rattle.samples.specs.declared.stage.Stage.{Stage}
 use Rattle.samples.specs.declared.stage.Found.{Found}
 use Rattle.samples.specs.declared.reader.SampleReader.{SampleReader}
 use Rattle.samples.specs.declared.reader.Ending.{Ending}
@@ -23,6 +25,7 @@ use Rattle.samples.specs.declared.inputs.Filled.{Filled}
 use Rattle.samples.specs.declared.inputs.InForce.{InForce}
 use Rattle.samples.specs.declared.inputs.Begun.{Begun}
 use Rattle.samples.specs.declared.inputs.Reached.{Reached}
+use Rattle.samples.specs.declared.usual_seconds.Told.{Told}
 use Rattle.samples.specs.ToCome.{rowFirst}
 use Rattle.samples.specs.Streamed.{yetToCome, isRefused}
 
@@ -161,6 +164,42 @@ pub record FilledRight (s : InputSource) (second : ℕ) (chunk : List ℕ) (at :
   pub keptLoads : KeptFrom (r .seconds) loads₀ loads
   pub keptSolars : KeptFrom (r .seconds) solars₀ solars
   pub keptSheddables : KeptFrom (r .seconds) sheddables₀ sheddables
+
+-- ---- one second after the other
+
+-- before the first second
+abbrev pub toldBefore : InputSource → ℕ → Told
+toldBefore s next = record { begun = record { stage = s .reader .stage; len = s .reader .len }; now = s .now; ahead = s .ahead; next = next; seconds = 0 }
+
+-- no byte of a line has begun, and the next row is the last that was read
+abbrev pub toldAt : Columns → ℕ → Sample → Sample → ℕ → ℕ → Told
+toldAt columns lines now x next seconds = record { begun = record { stage = Stage.LaterRows columns (x .at) lines; len = 0 }; now = now; ahead = Ahead.Next x; next = next; seconds = seconds }
+
+-- with the bytes of the line that has begun
+abbrev pub filledAt : Told → List ℕ → Filled
+filledAt t line = record { source = record { reader = readerAt (t .begun) line; now = t .now; ahead = t .ahead }; next = t .next; seconds = t .seconds }
+
+-- what is owed of the seconds told so far, whether or not others can be told
+pub record Filling (s : InputSource) (second : ℕ) (chunk : List ℕ) (at : ℕ) (loads₀ solars₀ sheddables₀ : List ℕ) (r : Filled) (loads solars sheddables : List ℕ) : Type 0 where
+  pub inputs : (rest : List ℕ) (rows : List Sample) → sourceRows s (drop at chunk ++ rest) ≡ accepted rows
+      → HeldOn (s .now) rows second r (drop (r .next) chunk ++ rest) loads solars sheddables
+  pub within : r .next ≤ length chunk
+  pub onward : min at (length chunk) ≤ r .next
+  pub most : r .seconds ≤ placesOf loads₀ solars₀ sheddables₀
+  pub ended : sourceEnded (r .source) ≡ sourceEnded s
+  pub keptLoads : KeptFrom (r .seconds) loads₀ loads
+  pub keptSolars : KeptFrom (r .seconds) solars₀ solars
+  pub keptSheddables : KeptFrom (r .seconds) sheddables₀ sheddables
+
+-- what telling further seconds owes: whatever filling had told those so far, it has told these too
+pub record GoesOn (t : Told) (second places : ℕ) (chunk loads solars sheddables : List ℕ) (r : Told) (loads′ solars′ sheddables′ : List ℕ) : Type 0 where
+  pub filling : (s : InputSource) (at : ℕ) (loads₀ solars₀ sheddables₀ line : List ℕ) → places ≡ placesOf loads₀ solars₀ sheddables₀
+      → Filling s second chunk at loads₀ solars₀ sheddables₀ (filledAt t line) loads solars sheddables
+      → Filling s second chunk at loads₀ solars₀ sheddables₀ (filledAt r line) loads′ solars′ sheddables′
+  pub onward : t .seconds ≤ r .seconds
+  pub sameLoads : length loads′ ≡ length loads
+  pub sameSolars : length solars′ ≡ length solars
+  pub sameSheddables : length sheddables′ ≡ length sheddables
 
 -- ---- the end of the file
 

@@ -23,6 +23,7 @@ use Rattle.samples.specs.declared.reader.Pulled.{Pulled}
 use Rattle.samples.specs.declared.reader.Ending.{Ending}
 use Rattle.samples.specs.declared.check.Span.{Span}
 use Rattle.samples.specs.declared.check.SampleCheck.{SampleCheck}
+use Rattle.samples.specs.declared.check.RowsCounted.{RowsCounted}
 use Rattle.samples.specs.declared.check.Checked.{Checked}
 use Rattle.samples.specs.ToCome.{mostPlace, toCome, rowFirst}
 
@@ -63,19 +64,14 @@ pub record LineRight (stage : Stage) (begun chunk : List ℕ) (at : ℕ) (r : Li
   pub within : r .next ≤ length chunk
   pub further : r .ended ≡ false → indexOf LF (drop at chunk) ≡ length (drop at chunk)
 
--- the usual row from a place of a chunk on, later than the last, where no byte of its line came before
-pub record UsualLater (stage : Stage) (len : ℕ) (chunk : List ℕ) (at : ℕ) (x : Sample) (next : ℕ) : Type 0 where
-  pub columns : Columns
-  pub last : ℕ
-  pub lines : ℕ
-  pub after : stage ≡ Stage.LaterRows columns last lines
-  pub none : len ≡ 0
+-- the usual row from a place of a chunk on, later than the last
+pub record UsualLater (columns : Columns) (last : ℕ) (chunk : List ℕ) (at : ℕ) (x : Sample) (next : ℕ) : Type 0 where
   pub later : last < x .at
   pub right : UsualRight columns chunk at x next
 
-abbrev pub usualLater : Stage → ℕ → List ℕ → ℕ → Usual → Type 0
-usualLater stage len chunk at (Usual.Row x next) = UsualLater stage len chunk at x next
-usualLater stage len chunk at Usual.Other = Unit {0}
+abbrev pub usualLater : Columns → ℕ → List ℕ → ℕ → Usual → Type 0
+usualLater columns last chunk at (Usual.Row x next) = UsualLater columns last chunk at x next
+usualLater columns last chunk at Usual.Other = Unit {0}
 
 -- what the next row of the lines that end in a chunk owes; what is left has no line that ends
 pub record NextRight (stage : Stage) (line : List ℕ) (len : ℕ) (chunk : List ℕ) (at : ℕ) (r : NextRow) : Type 0 where
@@ -131,6 +127,12 @@ spanned s (refused number place) = refused number place
 -- what the check comes to, where `rest` is left of the file
 unfoldable pub checkedWith : SampleCheck → List ℕ → Answer Span
 checkedWith c rest = spanned (c .span) (yetToCome (c .reader) rest)
+
+-- what counting rows from a place of a chunk on owes, where the bytes `begun` of a line came before
+pub record CountedOn (stage : Stage) (begun : List ℕ) (span : Span) (chunk : List ℕ) (at : ℕ) (r : RowsCounted) : Type 0 where
+  pub rows : (rest : List ℕ) → spanned span (toCome stage (linesAfter begun (drop at chunk ++ rest))) ≡ spanned (r .span) (toCome (r .stage) (linesAfter begun (drop (r .next) chunk ++ rest)))
+  pub onward : at ≤ r .next
+  pub within : at ≤ length chunk → r .next ≤ length chunk
 
 abbrev pub checkedOf : Checked → Answer Span
 checkedOf (Checked.Accepted s) = accepted s

@@ -29,13 +29,6 @@ toCome (Stage.FirstRow columns) ls = placed (samplesOf (rowsAfter sampleSheet (c
 toCome (Stage.LaterRows columns last n) ls = placed (samplesOf (laterRows sampleSheet (columnsOf columns) (suc n) last ls))
 toCome (Stage.Refused r) ls = refusalOf r
 
--- the stage after a later row of this time
-abbrev pub laterAt : Stage → ℕ → Stage
-laterAt Stage.Heading time = Stage.Heading
-laterAt (Stage.FirstRow columns) time = Stage.FirstRow columns
-laterAt (Stage.LaterRows columns last n) time = Stage.LaterRows columns time (min (suc n) mostPlace)
-laterAt (Stage.Refused r) time = Stage.Refused r
-
 -- the rows after the one that was found are those to come
 abbrev pub rowFirst : Found → Answer (List Sample) → Answer (List Sample)
 rowFirst (Found.Row x) (accepted rows) = accepted (x ∷ rows)

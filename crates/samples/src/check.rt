@@ -2,17 +2,22 @@
 ghost use mathlib.Core.Path.{_≡_};
 ghost use Prim.Native.Nat.{ℕ};
 ghost use mathlib.Core.List.{List, [], _++_};
+ghost use lib.ListN.{take};
 ghost use Rattle.samples.specs.ToCome.{placed};
-ghost use Rattle.samples.specs.Streamed.{oneMore, sheetSpan, checkedWith, checkedOf, isRefused};
+ghost use Rattle.samples.specs.Streamed.{oneMore, CountedOn, sheetSpan, checkedWith, checkedOf, isRefused};
 use crate::reader::Ending;
 use crate::reader::SampleReader;
 use crate::reader::end;
 use crate::reader::kept;
 use crate::reader::next_row;
 use crate::reader::reader;
+use crate::reader::usual_later;
 use crate::stage::Found;
 use crate::stage::Stage;
+use crate::stage::next_line;
 use rules::answers::Refusal;
+use sheet::headings::Columns;
+use sheet::usual::Usual;
 
 // How many rows were accepted, and the time of the last.
 pub struct Span {
@@ -59,6 +64,70 @@ pub fn check() -> SampleCheck
     }
 }
 
+// What the lines came to once usual rows were read, those rows counted, and the place after them.
+struct RowsCounted {
+    stage: Stage,
+    span: Span,
+    next: usize,
+}
+
+// The usual rows from a place of the chunk on, as long as each is later than the last. The loop carries numbers alone, since enums
+// by value cost more than the rows.
+fn usual_rows(
+    columns: Columns,
+    last: u32,
+    lines: u64,
+    span: Span,
+    chunk: &[u8],
+    at: usize,
+) -> RowsCounted
+    ensures { λ r. ⌜ CountedOn (Stage.LaterRows columns last lines) [] span (now (chunk .entry)) at r ⌝ }
+{
+    let mut latest = last;
+    let mut line = lines;
+    let mut rows = span.rows;
+    let mut time = span.last;
+    let mut next = at;
+    while next < chunk.len() {
+        let usual = usual_later(columns, latest, chunk, next);
+        let Usual::Row(sample, after) = usual else {
+            return RowsCounted {
+                stage: Stage::LaterRows(columns, latest, line),
+                span: Span { rows, last: time },
+                next,
+            };
+        };
+        latest = sample.at;
+        line = next_line(line);
+        rows = next_line(rows);
+        time = latest;
+        next = after;
+    }
+    RowsCounted {
+        stage: Stage::LaterRows(columns, latest, line),
+        span: Span { rows, last: time },
+        next,
+    }
+}
+
+// The same at any stage; there are none where a line has begun.
+fn usual_rows_at(stage: Stage, len: usize, span: Span, chunk: &[u8], at: usize) -> RowsCounted
+    ensures { λ r. ⌜ ((line : List ℕ) → CountedOn stage (take len line) span (now (chunk .entry)) at r) ⌝ }
+{
+    let none = RowsCounted {
+        stage,
+        span,
+        next: at,
+    };
+    if 0 < len {
+        return none;
+    }
+    let Stage::LaterRows(columns, last, lines) = stage else {
+        return none;
+    };
+    usual_rows(columns, last, lines, span, chunk, at)
+}
+
 // The next bytes of the file.
 pub fn feed(check: SampleCheck, chunk: &[u8]) -> SampleCheck
     ensures { λ r. ⌜ ((rest : List ℕ) → checkedWith check (now (chunk .entry) ++ rest) ≡ checkedWith r rest) ⌝ }
@@ -70,6 +139,10 @@ pub fn feed(check: SampleCheck, chunk: &[u8]) -> SampleCheck
     let mut span = check.span;
     let mut at = 0;
     while at < chunk.len() {
+        let usual = usual_rows_at(stage, len, span, chunk, at);
+        stage = usual.stage;
+        span = usual.span;
+        at = usual.next;
         let row = next_row(stage, &line, len, chunk, at);
         let found = row.found;
         stage = row.stage;

@@ -6,7 +6,7 @@ ghost use mathlib.Core.List.{List, []};
 ghost use lib.ListN.{length};
 ghost use Rattle.rules.specs.SampleFile.{sampleFile, beforeAll};
 ghost use Rattle.samples.specs.ToCome.{placed};
-ghost use Rattle.samples.specs.Held.{sourceRows, sourceEnded, sourceRefused, lastComesIn, comesIn, aheadAtEnd, readerAt, ReachedRight, FilledRight, EndedRight};
+ghost use Rattle.samples.specs.Held.{sourceRows, sourceEnded, sourceRefused, lastComesIn, comesIn, aheadAtEnd, readerAt, filledAt, ReachedRight, FilledRight, EndedRight};
 use crate::check::line_refused;
 use crate::reader::Ending;
 use crate::reader::SampleReader;
@@ -17,6 +17,9 @@ use crate::reader::next_row;
 use crate::reader::reader;
 use crate::stage::Found;
 use crate::stage::Stage;
+use crate::usual_seconds::Told;
+use crate::usual_seconds::told_before;
+use crate::usual_seconds::usual_seconds;
 use rules::answers::Refusal;
 use rules::samples::Sample;
 
@@ -58,9 +61,9 @@ struct InForce {
 }
 
 // What the lines so far came to, and how many bytes of a line have begun.
-struct Begun {
-    stage: Stage,
-    len: usize,
+pub(crate) struct Begun {
+    pub(crate) stage: Stage,
+    pub(crate) len: usize,
 }
 
 // The row in force at a second; `told` is false where the chunk ends before that is known.
@@ -73,7 +76,7 @@ struct Reached {
 }
 
 // A time is cast in a function of its own, so that a sum with a place of a slice cannot wrap.
-fn wide(time: u32) -> usize
+pub(crate) fn wide(time: u32) -> usize
     ensures { λ r. ⌜ (r ≡ time) × (r ≤ 4294967295) ⌝ }
 {
     time as usize
@@ -236,7 +239,22 @@ fn reader_at(begun: Begun, line: [u8; 512]) -> SampleReader
     }
 }
 
-// The seconds of a file that is not refused; `first` is the first of them.
+// The seconds told, with the bytes of the line that has begun.
+fn filled_at(told: Told, line: [u8; 512]) -> Filled
+    ensures { λ r. ⌜ r ≡ filledAt told line ⌝ }
+{
+    let begun = told.begun;
+    let now = told.now;
+    let ahead = told.ahead;
+    let reader = reader_at(begun, line);
+    Filled {
+        source: InputSource { reader, now, ahead },
+        next: told.next,
+        seconds: told.seconds,
+    }
+}
+
+// The seconds of a file that is not refused; `first` is the first of them. The usual ones go on in numbers, and any other is reached.
 fn fill_seconds(
     source: InputSource,
     first: usize,
@@ -252,21 +270,20 @@ fn fill_seconds(
     let places = lesser(loads.len(), lesser(solars.len(), sheddables.len()));
     let reader = source.reader;
     let line = reader.line;
-    let stage = reader.stage;
-    let mut begun = Begun {
-        stage,
-        len: reader.len,
-    };
-    let mut now = source.now;
-    let mut ahead = source.ahead;
-    let mut next = lesser(at, chunk.len());
-    let mut i = 0;
-    while i < places {
-        let reached = reach(begun, &line, now, ahead, first + i, chunk, next);
-        begun = reached.begun;
-        now = reached.now;
-        ahead = reached.ahead;
-        next = reached.next;
+    let mut told = told_before(source, lesser(at, chunk.len()));
+    while told.seconds < places {
+        let usual = usual_seconds(told, first, places, chunk, loads, solars, sheddables);
+        let i = usual.seconds;
+        if places <= i {
+            return filled_at(usual, line);
+        }
+        let rows = usual.ahead;
+        let next = usual.next;
+        let reached = reach(usual.begun, &line, usual.now, rows, first + i, chunk, next);
+        let begun = reached.begun;
+        let now = reached.now;
+        let ahead = reached.ahead;
+        let next = reached.next;
         if !reached.told {
             let reader = kept(reader_at(begun, line), &chunk[next..]);
             return Filled {
@@ -278,14 +295,16 @@ fn fill_seconds(
         loads[i] = now.load;
         solars[i] = now.solar;
         sheddables[i] = now.sheddable;
-        i += 1;
+        let seconds = i + 1;
+        told = Told {
+            begun,
+            now,
+            ahead,
+            next,
+            seconds,
+        };
     }
-    let reader = reader_at(begun, line);
-    Filled {
-        source: InputSource { reader, now, ahead },
-        next,
-        seconds: i,
-    }
+    filled_at(told, line)
 }
 
 // Whether the file has ended, so that no further byte changes what is to come.

@@ -3,3 +3,4 @@ pub mod check;
 pub mod inputs;
 pub mod reader;
 pub mod stage;
+mod usual_seconds;

@@ -15,7 +15,6 @@ use crate::stage::Found;
 use crate::stage::Stage;
 use crate::stage::Turn;
 use crate::stage::after_later;
-use crate::stage::later_at;
 use crate::stage::next_line;
 use crate::stage::take_line;
 use crate::stage::too_long;
@@ -24,6 +23,7 @@ use rules::answers::Refusal;
 use rules::answers::Verdict;
 use rules::limits::MOST_LINE;
 use rules::samples::Sample;
+use sheet::headings::Columns;
 use sheet::rows::RowRead;
 use sheet::usual::Usual;
 use sheet::usual::usual_row;
@@ -241,7 +241,13 @@ fn line_at(stage: Stage, line: &[u8; 512], len: usize, chunk: &[u8], at: usize) 
 }
 
 // The next row out of the lines that end in the chunk, from a place on; the bytes of the line that has begun are left alone.
-fn any_row(stage: Stage, line: &[u8; 512], len: usize, chunk: &[u8], at: usize) -> NextRow
+pub(crate) fn next_row(
+    stage: Stage,
+    line: &[u8; 512],
+    len: usize,
+    chunk: &[u8],
+    at: usize,
+) -> NextRow
     ensures { λ r. ⌜ NextRight stage (now (line .entry)) len (now (chunk .entry)) at r ⌝ }
 {
     let mut latest = stage;
@@ -278,16 +284,10 @@ fn any_row(stage: Stage, line: &[u8; 512], len: usize, chunk: &[u8], at: usize) 
     }
 }
 
-// The row from a place of the chunk on, where it is a usual one that is later than the last, and no byte of its line came before.
-fn usual_after(stage: Stage, len: usize, chunk: &[u8], at: usize) -> Usual
-    ensures { λ r. ⌜ usualLater stage len (now (chunk .entry)) at r ⌝ }
+// The row from a place of the chunk on, where it is a usual one that is later than the last.
+pub(crate) fn usual_later(columns: Columns, last: u32, chunk: &[u8], at: usize) -> Usual
+    ensures { λ r. ⌜ usualLater columns last (now (chunk .entry)) at r ⌝ }
 {
-    if 0 < len {
-        return Usual::Other;
-    }
-    let Stage::LaterRows(columns, last, _) = stage else {
-        return Usual::Other;
-    };
     let usual = usual_row(columns, chunk, at);
     let Usual::Row(sample, next) = usual else {
         return Usual::Other;
@@ -296,28 +296,6 @@ fn usual_after(stage: Stage, len: usize, chunk: &[u8], at: usize) -> Usual
         return Usual::Other;
     }
     Usual::Row(sample, next)
-}
-
-// The same; nearly every row is a usual one, which takes no turn of a loop.
-pub(crate) fn next_row(
-    stage: Stage,
-    line: &[u8; 512],
-    len: usize,
-    chunk: &[u8],
-    at: usize,
-) -> NextRow
-    ensures { λ r. ⌜ NextRight stage (now (line .entry)) len (now (chunk .entry)) at r ⌝ }
-{
-    let usual = usual_after(stage, len, chunk, at);
-    let Usual::Row(sample, next) = usual else {
-        return any_row(stage, line, len, chunk, at);
-    };
-    NextRow {
-        stage: later_at(stage, sample.at),
-        len: 0,
-        next,
-        found: Found::Row(sample),
-    }
 }
 
 // The next row out of the chunk, from a place on.

@@ -6,7 +6,7 @@ ghost use Rattle.rules.specs.Lines.{Line};
 ghost use Rattle.rules.specs.SampleFile.{sampleSheet, headingLine};
 ghost use Rattle.sheet.specs.Headings.{headedOf};
 ghost use Rattle.sheet.specs.Rows.{rowOf, rowIn};
-ghost use Rattle.samples.specs.ToCome.{mostPlace, laterAt, toCome, rowFirst, endOf};
+ghost use Rattle.samples.specs.ToCome.{mostPlace, toCome, rowFirst, endOf};
 use rules::answers::Refusal;
 use rules::answers::Verdict;
 use rules::samples::Sample;
@@ -106,18 +106,6 @@ pub(crate) fn after_later(columns: Columns, last: u32, line: u64, row: RowRead) 
                 found: Found::Nothing,
             }
         }
-    }
-}
-
-// The stage after a later row of this time.
-pub(crate) fn later_at(stage: Stage, time: u32) -> Stage
-    ensures { λ r. ⌜ r ≡ laterAt stage time ⌝ }
-{
-    match stage {
-        Stage::Heading => Stage::Heading,
-        Stage::FirstRow(columns) => Stage::FirstRow(columns),
-        Stage::LaterRows(columns, _, lines) => Stage::LaterRows(columns, time, next_line(lines)),
-        Stage::Refused(refusal) => Stage::Refused(refusal),
     }
 }
 

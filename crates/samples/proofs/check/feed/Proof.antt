@@ -15,6 +15,7 @@ use Rattle.samples.proofs.check.feed.Tie as tie
 use Rattle.samples.proofs.check.feed.Reads as reads
 use Rattle.samples.proofs.check.feed.Lts as lts
 use Rattle.samples.proofs.check.counted.Reads as counted-reads
+use Rattle.samples.proofs.check.usual_rows_at.Reads as usual-rows-at-reads
 use Rattle.samples.proofs.reader.kept.Reads as kept-reads
 use Rattle.samples.proofs.reader.next_row.Reads as next-row-reads
 
@@ -24,73 +25,73 @@ Inv-loop chunk line len₀ stage₀ span₀ at₀ len stage span at = (at ≤ le
 abbrev μ-loop : tie.MeasureT-loop
 μ-loop chunk line len₀ stage₀ span₀ at₀ len stage span at = length chunk - at
 
--- src/check.rt:72:5
 loop-holds : tie.Need-loop-holds Inv-loop μ-loop
 loop-holds c = (omega arith, λ rest. refl)
 
--- src/check.rt:73:13
+usual-rows-at-requires : tie.Need-usual-rows-at-requires Inv-loop μ-loop
+usual-rows-at-requires c κs = search needs
+
 next-row-requires : tie.Need-next-row-requires Inv-loop μ-loop
 next-row-requires c κs = search needs
 
 enum-told : tie.Need-enum-told Inv-loop μ-loop
 enum-told c = search needs
 
--- src/check.rt:79:40
 enum-told-2 : tie.Need-enum-told-2 Inv-loop μ-loop
 enum-told-2 c = search needs
 
--- src/check.rt:81:37
 sub-kept : tie.Need-sub-kept Inv-loop μ-loop
 sub-kept c = search needs
 
--- src/check.rt:81:37
 part-kept-start : tie.Need-part-kept-start Inv-loop μ-loop
 part-kept-start c = search needs
 
--- src/check.rt:81:37
 part-kept-end : tie.Need-part-kept-end Inv-loop μ-loop
 part-kept-end c = search needs
 
--- src/check.rt:81:25
 kept-requires : tie.Need-kept-requires Inv-loop μ-loop
 kept-requires c κs = search needs
 
--- src/check.rt:80:13
 returns : tie.Need-returns Inv-loop μ-loop
 unfolding checkedWith yetToCome
 returns c =
+    let s = c .before .before .before .before .before .before .before .before .before .before .before .before .before .before .args .chunk .now in
+    let line = c .before .before .before .before .before .before .before .before .before .before .before .before .before .before .args .check .reader .line in
+    let u = c .before .before .before .before .before .before .before .usual-rows-at .ensures line in
     let n = c .before .before .before .before .next-row .ensures in
     let e = c .before .before .enum-told2 .given .1 in
-    let f = n .further (ap isRow e) in
-    λ rest. c .before .before .before .before .before .before .before .loop .inv .1 rest ∙ ap (spanned (c .before .before .before .before .before .before .before .loop .span)) (rw e at (n .rows rest) ∙ kept-whole (c .before .before .before .before .before .before .before .before .before .before .before .before .args .chunk .now) (c .before .before .before .before .next-row .result .next) (record { line = c .before .before .before .before .before .before .before .before .before .before .before .before .args .check .reader .line; len = c .before .before .before .before .next-row .result .len; stage = c .before .before .before .before .next-row .result .stage }) (c .kept .result) rest f (c .kept .ensures) ∙ at-end-of (c .before .before .before .before .before .before .before .before .before .before .before .before .args .chunk .now) (c .kept .result) rest)
+    let begun : SampleReader = record { line = line; len = c .before .before .before .before .next-row .result .len; stage = c .before .before .before .before .next-row .result .stage } in
+    λ rest. c .before .before .before .before .before .before .before .before .before .loop .inv .1 rest
+    ∙ u .rows rest
+    ∙ ap (spanned (c .before .before .before .before .before .before .before .usual-rows-at .result .span)) (rw e at (n .rows rest) ∙ kept-whole s (c .before .before .before .before .next-row .result .next) begun (c .kept .result) rest (n .further (ap isRow e)) (c .kept .ensures) ∙ at-end-of s (c .kept .result) rest)
 
--- src/check.rt:85:9
 counted-requires : tie.Need-counted-requires Inv-loop μ-loop
 counted-requires c κs = search needs
 
--- src/check.rt:72:5
 loop-less : tie.Need-loop-less Inv-loop μ-loop
-loop-less c = let o = c .before .before .before .next-row .ensures .onward (ap isRow (c .before .enum-told .given .1)) in omega (arith, o, c .before .before .before .next-row .ensures .within)
+loop-less c =
+    let n = c .before .before .before .next-row .ensures in
+    omega (arith, n .onward (ap isRow (c .before .enum-told .given .1)), n .within, c .before .before .before .before .before .before .usual-rows-at .ensures (c .before .before .before .before .before .before .before .before .before .before .before .before .before .args .check .reader .line) .onward)
 
--- src/check.rt:72:5
 loop-again : tie.Need-loop-again Inv-loop μ-loop
 unfolding yetToCome
 loop-again c =
+    let line = c .before .before .before .before .before .before .before .before .before .before .before .before .before .args .check .reader .line in
+    let span = c .before .before .before .before .before .before .usual-rows-at .result .span in
     let n = c .before .before .before .next-row .ensures in
-    let after : SampleReader = record { line = c .before .before .before .before .before .before .before .before .before .before .before .args .check .reader .line; len = c .before .before .before .next-row .result .len; stage = c .before .before .before .next-row .result .stage } in
-    let left : List ℕ → List ℕ = λ rest. drop (c .before .before .before .next-row .result .next) (c .before .before .before .before .before .before .before .before .before .before .before .args .chunk .now) ++ rest in (
+    let after : SampleReader = record { line = line; len = c .before .before .before .next-row .result .len; stage = c .before .before .before .next-row .result .stage } in
+    let left : List ℕ → List ℕ = λ rest. drop (c .before .before .before .next-row .result .next) (c .before .before .before .before .before .before .before .before .before .before .before .before .before .args .chunk .now) ++ rest in (
       n .within,
-      λ rest. c .before .before .before .before .before .before .loop .inv .1 rest
-          ∙ ap (spanned (c .before .before .before .before .before .before .loop .span)) (n .rows rest)
-          ∙ found-counted (c .before .before .before .before .before .before .loop .span) (c .before .before .before .next-row .result .found) (yetToCome after (left rest))
+      λ rest. c .before .before .before .before .before .before .before .before .loop .inv .1 rest
+          ∙ c .before .before .before .before .before .before .usual-rows-at .ensures line .rows rest
+          ∙ ap (spanned span) (n .rows rest)
+          ∙ found-counted span (c .before .before .before .next-row .result .found) (yetToCome after (left rest))
           ∙ ap (λ (s : Span). spanned s (yetToCome after (left rest))) (sym (c .counted .ensures)),
     )
 
--- src/check.rt:63:1
 returns-2 : tie.Need-returns-2 Inv-loop μ-loop
 unfolding checkedWith
-returns-2 c =
-    λ rest. rw (drop-of-length-le _ (c .loop-test .left)) at (c .before .loop .inv .1 rest)
+returns-2 c = λ rest. rw (drop-of-length-le _ (c .loop-test .left)) at (c .before .loop .inv .1 rest)
 
 pub feed-spec : {M : Type 1} → statement M
 feed-spec =
@@ -99,6 +100,7 @@ feed-spec =
     Inv-loop
     μ-loop
     loop-holds
+    usual-rows-at-requires
     next-row-requires
     enum-told
     enum-told-2

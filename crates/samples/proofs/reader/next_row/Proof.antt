@@ -1,55 +1,93 @@
 -- `samples::reader::next_row` meets its contract. Assumes nothing.
-use Rattle.samples.specs.Streamed.{UsualLater}
-use Rattle.samples.proofs.UsualNext.{usual-next}
+use Prim.Native.Nat.{ℕ, _-_, _≤_, min}
+use mathlib.Core.Path.{_≡_, sym, _∙_}
+use mathlib.Core.List.{List, _++_}
+use native.Mathlib.Omega.{arith}
+use lib.ListN.{length, take, drop, drop-of-length-le}
 use borrow.Author.Needs.{needs}
+use borrow.Author.Tests.{not-true, not-false}
+use Rattle.rules.specs.Bytes.{LF}
+use Rattle.rules.proofs.Tests.{never}
+use Rattle.samples.specs.ToCome.{toCome}
+use Rattle.samples.specs.Streamed.{linesAfter}
+use Rattle.samples.proofs.LineLaws.{drop-least, none-left}
 use Rattle.samples.proofs.reader.next_row.Statement.{statement}
 use Rattle.samples.proofs.reader.next_row.Tie as tie
 use Rattle.samples.proofs.reader.next_row.Reads as reads
 use Rattle.samples.proofs.reader.next_row.Lts as lts
-use Rattle.samples.proofs.reader.any_row.Reads as any-row-reads
-use Rattle.samples.proofs.reader.usual_after.Reads as usual-after-reads
-use Rattle.samples.proofs.stage.later_at.Reads as later-at-reads
+use Rattle.samples.proofs.reader.lesser.Reads as lesser-reads
+use Rattle.samples.proofs.reader.line_at.Reads as line-at-reads
 
--- src/reader.rt:317:9
-usual-after-requires : tie.Need-usual-after-requires
-usual-after-requires c κs = search needs
+abbrev Inv-loop : tie.InvT-loop
+Inv-loop line len chunk at latest₀ begun₀ next₀ latest begun next =
+    (next ≤ length chunk) × (min at (length chunk) ≤ next)
+    × ((rest : List ℕ) → toCome latest₀ (linesAfter (take len line) (drop at chunk ++ rest)) ≡ toCome latest (linesAfter (take begun line) (drop next chunk ++ rest)))
 
--- src/reader.rt:318:20
-enum-known-usual : tie.Need-enum-known-usual
-enum-known-usual c = search needs
+abbrev μ-loop : tie.MeasureT-loop
+μ-loop line len chunk at latest₀ begun₀ next₀ latest begun next = length chunk - next
 
--- src/reader.rt:319:9
-enum-told : tie.Need-enum-told
+lesser-requires : tie.Need-lesser-requires Inv-loop μ-loop
+lesser-requires c κs = search needs
+
+loop-holds : tie.Need-loop-holds Inv-loop μ-loop
+loop-holds c = (omega (arith, c .lesser .ensures .1), omega (arith, c .lesser .ensures .2), λ rest. rw (c .lesser .ensures .2, drop-least (c .before .before .args .at) (c .before .before .args .chunk .now)))
+
+line-at-requires : tie.Need-line-at-requires Inv-loop μ-loop
+line-at-requires c κs = search needs
+
+returns : tie.Need-returns Inv-loop μ-loop
+returns c =
+    let i = c .before .before .before .before .loop .inv in
+    record { rows = i .2; within = i .0; ahead = i .1; onward = λ found. never found; further = λ none. c .before .before .line-at .ensures .further (not-true _ (c .if1 .taken)) }
+
+enum-told : tie.Need-enum-told Inv-loop μ-loop
 enum-told c = search needs
 
--- src/reader.rt:319:9
-any-row-requires : tie.Need-any-row-requires
-any-row-requires c κs = search needs
+loop-less : tie.Need-loop-less Inv-loop μ-loop
+loop-less c = let e = c .before .before .before .before .line-at .ensures .onward (not-false _ (c .before .before .if1 .left)) in omega (arith, e, c .before .before .before .before .line-at .ensures .within)
 
--- src/reader.rt:319:9
-returns : tie.Need-returns
-returns c = search needs
+loop-again : tie.Need-loop-again Inv-loop μ-loop
+loop-again c =
+    let i = c .before .before .before .before .before .before .loop .inv in
+    let e = not-false _ (c .before .before .if1 .left) in
+    let o = c .before .before .before .before .line-at .ensures .onward e in
+    (c .before .before .before .before .line-at .ensures .within, omega (arith, o, i .1), λ rest. i .2 rest ∙ (rw (c .enum-told .given .1) at (c .before .before .before .before .line-at .ensures .line e rest)))
 
--- src/reader.rt:322:16
-later-at-requires : tie.Need-later-at-requires
-later-at-requires c κs = search needs
+enum-told-2 : tie.Need-enum-told-2 Inv-loop μ-loop
+enum-told-2 c = search needs
 
--- src/reader.rt:308:1
-returns-2 : tie.Need-returns-2
+returns-2 : tie.Need-returns-2 Inv-loop μ-loop
 returns-2 c =
-    let a = c .before .before .before .before .before .before .args in
-    let usual = c .before .before .usual .given in
-    let u : UsualLater (a .stage) (a .len) (a .chunk .now) (a .at) (usual .0 .0) (usual .0 .1 .0) = rw (usual .1) at (c .before .before .before .before .usual-after .ensures) in
-    usual-next (a .stage) (c .later-at .result) (a .line .now) (a .len) (a .chunk .now) (a .at) (usual .0 .0) (usual .0 .1 .0) u (c .later-at .ensures)
+    let i = c .before .before .before .before .before .before .loop .inv in
+    let e = not-false _ (c .before .before .if1 .left) in
+    let o = c .before .before .before .before .line-at .ensures .onward e in
+    record {
+      rows = λ rest. i .2 rest ∙ c .before .before .before .before .line-at .ensures .line e rest;
+      within = c .before .before .before .before .line-at .ensures .within;
+      ahead = omega (arith, o, i .1);
+      onward = λ found. omega (arith, o, i .1);
+      further = λ none. never (sym (rw (c .enum-told2 .given .1) at none));
+    }
+
+returns-3 : tie.Need-returns-3 Inv-loop μ-loop
+returns-3 c =
+    let i = c .before .loop .inv in
+    let h = c .loop-test .left in
+    record { rows = i .2; within = i .0; ahead = i .1; onward = λ found. never found; further = λ none. rw (drop-of-length-le _ h) (none-left LF) }
 
 pub next-row-spec : {M : Type 1} → statement M
 next-row-spec =
     tie.close
     (tie.spec
-    usual-after-requires
-    enum-known-usual
-    enum-told
-    any-row-requires
+    Inv-loop
+    μ-loop
+    lesser-requires
+    loop-holds
+    line-at-requires
     returns
-    later-at-requires
-    returns-2)
+    enum-told
+    loop-less
+    loop-again
+    enum-told-2
+    returns-2
+    returns-3)

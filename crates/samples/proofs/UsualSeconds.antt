@@ -1,0 +1,129 @@
+-- The seconds that usual rows tell: the row in force holds for one more, or the next row comes into force and one more is read. Assumes nothing.
+use Prim.Native.Nat.{ℕ, suc, min, _+_, _≤_, _<_}
+use mathlib.Core.Path.{_≡_, refl, sym, ap, subst, _∙_}
+use mathlib.Core.Bool.{true}
+use mathlib.Core.List.{List, [], _∷_, _++_}
+use native.Mathlib.Omega.{arith}
+use lib.ListN.{length, drop, set, length-set}
+use lib.Seq.{drop-drop}
+use borrow.Author.Tests.{lt-leb}
+use Rattle.rules.specs.declared.samples.Sample.{Sample}
+use Rattle.rules.specs.declared.run.Inputs.{Inputs}
+use Rattle.rules.specs.Answers.{Answer, accepted}
+use Rattle.rules.specs.SampleFile.{holding}
+use Rattle.rules.proofs.Tests.{never}
+use Rattle.sheet.specs.declared.headings.Columns.{Columns}
+use Rattle.samples.specs.declared.stage.Stage.{Stage}
+use Rattle.samples.specs.declared.inputs.Ahead.{Ahead}
+use Rattle.samples.specs.declared.inputs.Begun.{Begun}
+use Rattle.samples.specs.declared.inputs.InputSource.{InputSource}
+use Rattle.samples.specs.declared.usual_seconds.Told.{Told}
+use Rattle.samples.specs.ToCome.{mostPlace, toCome}
+use Rattle.samples.specs.Streamed.{yetToCome, linesAfter, UsualLater}
+use Rattle.samples.specs.Held.{readerAt, sourceRows, heldFrom, inputsIn, ReachedRight, HeldOn, placesOf, toldAt, filledAt, Filling, GoesOn}
+use Rattle.samples.proofs.HeldLaws.{in-force, before-next, onward-same, after-next}
+use Rattle.samples.proofs.FillLaws.{filling-more}
+use Rattle.samples.proofs.UsualNext.{usual-on}
+
+-- ---- the row in force holds for one second more
+
+-- a second before the next row's is reached with what is known
+reached-before : (b : Begun) (line : List ℕ) (now x : Sample) (t : ℕ) (chunk : List ℕ) (next : ℕ) → t < x .at → next ≤ length chunk
+    → ReachedRight b line now (Ahead.Next x) t chunk next (record { begun = b; now = now; ahead = Ahead.Next x; next = next; told = true })
+reached-before b line now x t chunk next h w = record {
+  rows = λ rest rows e. record { others = rows; comes = e; onward = onward-same now rows t; force = λ u. force (yetToCome (readerAt b line) (drop next chunk ++ rest)) rows (after-next x (yetToCome (readerAt b line) (drop next chunk ++ rest)) rows e) };
+  within = w;
+  onward = omega arith;
+  further = λ u. never (sym u);
+  wanted = λ u. never (sym u);
+  ended = refl;
+}
+  where
+    force : (a : Answer (List Sample)) (rows : List Sample) → (others : List Sample) × (a ≡ accepted others) × (x ∷ others ≡ rows) → holding now rows t ≡ now
+    force a rows n = subst (λ (l : List Sample). holding now l t ≡ now) (n .2) (before-next now x (n .0) t (lt-leb (x .at) t h))
+
+-- ---- the next row comes into force, and the one after it is read
+
+module _ (columns : Columns) (lines : ℕ) (now x : Sample) (next i : ℕ) (chunk : List ℕ) (y : Sample) (after : ℕ) (u : UsualLater columns (x .at) chunk next y after) (line : List ℕ) where
+  -- the rows after the one that comes into force
+  rows-then : (rest : List ℕ) (others : List Sample) → sourceRows (filledAt (toldAt columns lines now x next i) line .source) (drop next chunk ++ rest) ≡ accepted others
+      → (left : List Sample) × (sourceRows (filledAt (toldAt columns (min (suc lines) mostPlace) x y after i) line .source) (drop after chunk ++ rest) ≡ accepted left) × (x ∷ left ≡ others)
+  unfolding sourceRows yetToCome
+  rows-then rest others e =
+      let n = after-next x (toCome (Stage.LaterRows columns (x .at) lines) (linesAfter [] (drop next chunk ++ rest))) others e in
+      (n .0, sym (usual-on columns (x .at) lines chunk next y after u rest) ∙ n .1, n .2)
+
+  row-then : (s : InputSource) (second at : ℕ) (loads₀ solars₀ sheddables₀ loads solars sheddables : List ℕ) → x .at ≤ second + i
+      → Filling s second chunk at loads₀ solars₀ sheddables₀ (filledAt (toldAt columns lines now x next i) line) loads solars sheddables
+      → Filling s second chunk at loads₀ solars₀ sheddables₀ (filledAt (toldAt columns (min (suc lines) mostPlace) x y after i) line) loads solars sheddables
+  row-then s second at loads₀ solars₀ sheddables₀ loads solars sheddables h f = record {
+    inputs = λ rest rows a. held rest rows (f .inputs rest rows a);
+    within = u .right .within;
+    onward = omega (arith, f .onward, u .right .onward);
+    most = f .most;
+    ended = f .ended;
+    keptLoads = f .keptLoads;
+    keptSolars = f .keptSolars;
+    keptSheddables = f .keptSheddables;
+  }
+    where
+      held : (rest : List ℕ) (rows : List Sample) → HeldOn (s .now) rows second (filledAt (toldAt columns lines now x next i) line) (drop next chunk ++ rest) loads solars sheddables
+          → HeldOn (s .now) rows second (filledAt (toldAt columns (min (suc lines) mostPlace) x y after i) line) (drop after chunk ++ rest) loads solars sheddables
+      held rest rows c =
+          let n = rows-then rest (c .others) (c .comes) in
+          record {
+            others = n .0;
+            comes = n .1;
+            passed = c .passed + 1;
+            last = sym (drop-drop 1 (c .passed) (s .now ∷ rows)) ∙ ap (drop 1) (c .last) ∙ sym (n .2);
+            told = λ k. c .told k
+                ∙ ap (λ (l : List Inputs). inputsIn i loads solars sheddables ++ l) (ap (λ (l : List Sample). heldFrom now l (second + i) k) (sym (n .2)) ∙ in-force now x (n .0) (second + i) k h);
+          }
+
+-- ---- one turn after the other
+
+pub none-told : (t : Told) (second places : ℕ) (chunk loads solars sheddables : List ℕ) → GoesOn t second places chunk loads solars sheddables t loads solars sheddables
+none-told t second places chunk loads solars sheddables =
+    record { filling = λ s at loads₀ solars₀ sheddables₀ line e f. f; onward = omega arith; sameLoads = refl; sameSolars = refl; sameSheddables = refl }
+
+module _ (t : Told) (second places : ℕ) (chunk loads₁ solars₁ sheddables₁ : List ℕ) (columns : Columns) (lines : ℕ) (now x : Sample) (next i : ℕ) (loads solars sheddables : List ℕ)
+    (g : GoesOn t second places chunk loads₁ solars₁ sheddables₁ (toldAt columns lines now x next i) loads solars sheddables) where
+  pub second-told : second + i < x .at → i < places
+      → GoesOn t second places chunk loads₁ solars₁ sheddables₁ (toldAt columns lines now x next (i + 1)) (set loads i (now .load)) (set solars i (now .solar)) (set sheddables i (now .sheddable))
+  second-told h k = record {
+    filling = λ s at loads₀ solars₀ sheddables₀ line e f.
+        let b : Begun = record { stage = Stage.LaterRows columns (x .at) lines; len = 0 } in
+        let f′ = g .filling s at loads₀ solars₀ sheddables₀ line e f in
+        let j : i < placesOf loads₀ solars₀ sheddables₀ = omega arith in
+        filling-more s second chunk at loads₀ solars₀ sheddables₀ (filledAt (toldAt columns lines now x next i) line) loads solars sheddables f′ b line refl
+        (record { begun = b; now = now; ahead = Ahead.Next x; next = next; told = true }) (reached-before b line now x (second + i) chunk next h (f′ .within)) refl j;
+    onward = omega (arith, g .onward);
+    sameLoads = length-set loads i (now .load) ∙ g .sameLoads;
+    sameSolars = length-set solars i (now .solar) ∙ g .sameSolars;
+    sameSheddables = length-set sheddables i (now .sheddable) ∙ g .sameSheddables;
+  }
+
+  pub row-told : x .at ≤ second + i → (y : Sample) (after : ℕ) → UsualLater columns (x .at) chunk next y after
+      → GoesOn t second places chunk loads₁ solars₁ sheddables₁ (toldAt columns (min (suc lines) mostPlace) x y after i) loads solars sheddables
+  row-told h y after u = record {
+    filling = λ s at loads₀ solars₀ sheddables₀ line e f.
+        row-then columns lines now x next i chunk y after u line s second at loads₀ solars₀ sheddables₀ loads solars sheddables h (g .filling s at loads₀ solars₀ sheddables₀ line e f);
+    onward = g .onward;
+    sameLoads = g .sameLoads;
+    sameSolars = g .sameSolars;
+    sameSheddables = g .sameSheddables;
+  }
+
+-- where the tests passed, what was told is as the numbers have it
+told-is : (t : Told) (columns : Columns) (last lines : ℕ) (x : Sample) → t .begun .stage ≡ Stage.LaterRows columns last lines → t .ahead ≡ Ahead.Next x → t .begun .len ≡ 0 → last ≡ x .at
+    → toldAt columns lines (t .now) x (t .next) (t .seconds) ≡ t
+told-is t columns last lines x stage ahead none same =
+    let e : Stage.LaterRows columns (x .at) lines ≡ t .begun .stage = ap (λ (n : ℕ). Stage.LaterRows columns n lines) (sym same) ∙ sym stage in
+    λ i. record { begun = record { stage = e i; len = sym none i }; now = t .now; ahead = sym ahead i; next = t .next; seconds = t .seconds }
+
+pub goes-on-from : {second places : ℕ} {chunk loads solars sheddables loads′ solars′ sheddables′ : List ℕ} {r : Told} (t : Told) (columns : Columns) (last lines : ℕ) (x : Sample)
+    → t .begun .stage ≡ Stage.LaterRows columns last lines → t .ahead ≡ Ahead.Next x → t .begun .len ≡ 0 → last ≡ x .at
+    → GoesOn (toldAt columns lines (t .now) x (t .next) (t .seconds)) second places chunk loads solars sheddables r loads′ solars′ sheddables′
+    → GoesOn t second places chunk loads solars sheddables r loads′ solars′ sheddables′
+goes-on-from {second} {places} {chunk} {loads} {solars} {sheddables} {loads′} {solars′} {sheddables′} {r} t columns last lines x stage ahead none same =
+    subst (λ (from : Told). GoesOn from second places chunk loads solars sheddables r loads′ solars′ sheddables′) (told-is t columns last lines x stage ahead none same)

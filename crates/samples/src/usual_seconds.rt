@@ -1,0 +1,154 @@
+// The seconds that usual rows tell, one after the other: the loop carries numbers alone, since enums by value cost more than the rows.
+ghost use mathlib.Core.Path.{_≡_};
+ghost use Prim.Native.Nat.{_≤_};
+ghost use Rattle.samples.specs.Held.{toldBefore, toldAt, placesOf, GoesOn};
+use crate::inputs::Ahead;
+use crate::inputs::Begun;
+use crate::inputs::InputSource;
+use crate::inputs::wide;
+use crate::reader::usual_later;
+use crate::stage::Stage;
+use crate::stage::next_line;
+use rules::samples::Sample;
+use sheet::headings::Columns;
+use sheet::usual::Usual;
+
+// So many seconds were told: the row in force and the rows after it; the chunk is to be read on at `next`.
+pub(crate) struct Told {
+    pub(crate) begun: Begun,
+    pub(crate) now: Sample,
+    pub(crate) ahead: Ahead,
+    pub(crate) next: usize,
+    pub(crate) seconds: usize,
+}
+
+// Before the first second.
+pub(crate) fn told_before(source: InputSource, next: usize) -> Told
+    ensures { λ r. ⌜ r ≡ toldBefore source next ⌝ }
+{
+    let reader = source.reader;
+    let stage = reader.stage;
+    let now = source.now;
+    let ahead = source.ahead;
+    Told {
+        begun: Begun {
+            stage,
+            len: reader.len,
+        },
+        now,
+        ahead,
+        next,
+        seconds: 0,
+    }
+}
+
+// The row in force and the next one, the last that was read, after so many lines.
+fn told_at(
+    columns: Columns,
+    lines: u64,
+    now: Sample,
+    row: Sample,
+    next: usize,
+    seconds: usize,
+) -> Told
+    ensures { λ r. ⌜ r ≡ toldAt columns lines now row next seconds ⌝ }
+{
+    Told {
+        begun: Begun {
+            stage: Stage::LaterRows(columns, row.at, lines),
+            len: 0,
+        },
+        now,
+        ahead: Ahead::Next(row),
+        next,
+        seconds,
+    }
+}
+
+// The seconds after the first `from`, as far as usual rows of the chunk tell them; `ahead` is the next row, and the last that was read.
+fn fill_usual(
+    columns: Columns,
+    lines: u64,
+    held: Sample,
+    ahead: Sample,
+    at: usize,
+    from: usize,
+    first: usize,
+    places: usize,
+    chunk: &[u8],
+    loads: &mut [u32],
+    solars: &mut [u32],
+    sheddables: &mut [u32],
+) -> Told
+    requires { ⌜ (first ≤ 4294967295) × (places ≤ placesOf (now loads) (now solars) (now sheddables)) ⌝ }
+    ensures { λ r. ⌜ GoesOn (toldAt columns lines held ahead at from) first places (now (chunk .entry)) (now (loads .entry)) (now (solars .entry)) (now (sheddables .entry)) r (now (loads .exit)) (now (solars .exit)) (now (sheddables .exit)) ⌝ }
+{
+    let mut line = lines;
+    let mut now = held;
+    let mut row = ahead;
+    let mut next = at;
+    let mut i = from;
+    while i < places {
+        if first + i < wide(row.at) {
+            loads[i] = now.load;
+            solars[i] = now.solar;
+            sheddables[i] = now.sheddable;
+            i += 1;
+            continue;
+        }
+        let usual = usual_later(columns, row.at, chunk, next);
+        let Usual::Row(sample, after) = usual else {
+            return told_at(columns, line, now, row, next, i);
+        };
+        line = next_line(line);
+        now = row;
+        row = sample;
+        next = after;
+    }
+    told_at(columns, line, now, row, next, i)
+}
+
+// The same after any seconds; there are none where the next row is not known, or a line has begun.
+pub(crate) fn usual_seconds(
+    told: Told,
+    first: usize,
+    places: usize,
+    chunk: &[u8],
+    loads: &mut [u32],
+    solars: &mut [u32],
+    sheddables: &mut [u32],
+) -> Told
+    requires { ⌜ (first ≤ 4294967295) × (places ≤ placesOf (now loads) (now solars) (now sheddables)) ⌝ }
+    ensures { λ r. ⌜ GoesOn told first places (now (chunk .entry)) (now (loads .entry)) (now (solars .entry)) (now (sheddables .entry)) r (now (loads .exit)) (now (solars .exit)) (now (sheddables .exit)) ⌝ }
+{
+    let begun = told.begun;
+    let stage = begun.stage;
+    let ahead = told.ahead;
+    let now = told.now;
+    let Stage::LaterRows(columns, last, lines) = stage else {
+        return told;
+    };
+    let Ahead::Next(row) = ahead else {
+        return told;
+    };
+    if 0 < begun.len {
+        return told;
+    }
+    if last != row.at {
+        return told;
+    }
+    fill_usual(
+        columns,
+        lines,
+        now,
+        row,
+        told.next,
+        told.seconds,
+        first,
+        places,
+        chunk,
+        loads,
+        solars,
+        sheddables,
+    )
+}
