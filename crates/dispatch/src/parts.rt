@@ -1,10 +1,16 @@
 // A run's record in parts, so that many seconds change its arrays where they stand.
 ghost use mathlib.Core.Path.{_≡_};
-ghost use Rattle.dispatch.specs.Parts.{runOf};
+ghost use Prim.Native.Nat.{_≤_};
+ghost use Rattle.dispatch.specs.Parts.{runOf, momentAfter, rowOf};
+ghost use Rattle.dispatch.specs.Sized.{SmallTotals};
+use crate::totals::plus;
+use commitment::configuration::since_after;
 use rules::run::Held;
+use rules::run::Row;
 use rules::run::Run;
 use rules::run::SetState;
 use rules::run::Totals;
+use rules::run::Watts;
 
 // The record without its arrays.
 pub(crate) struct Moment {
@@ -45,5 +51,44 @@ pub(crate) fn whole(moment: Moment, states: [SetState; 8], decided: [u32; 60]) -
         sets: states,
         decided,
         totals,
+    }
+}
+
+// The record after a second but for its arrays, by what it called, held, stored and met.
+pub(crate) fn moment_after(
+    moment: Moment,
+    call: usize,
+    held: f64,
+    store: u64,
+    watts: Watts,
+) -> Moment
+    requires { ⌜ SmallTotals (moment .totals) × (moment .done ≤ 316_224_000) ⌝ }
+    ensures { λ r. ⌜ r ≡ momentAfter moment call held store watts ⌝ }
+{
+    let totals = moment.totals;
+    let done = moment.done;
+    let sums = plus(totals, watts);
+    Moment {
+        done: done + 1,
+        since: since_after(call, moment.called, moment.since, done),
+        called: call,
+        store,
+        setpoint: Held::At(held),
+        totals: sums,
+    }
+}
+
+// Its row: the mask of the sets On, "and how many sets that is".
+pub(crate) fn row_of(second: u32, watts: Watts, on: u32, call: usize, store: u64) -> Row
+    requires { ⌜ call ≤ 64 ⌝ }
+    ensures { λ r. ⌜ r ≡ rowOf second watts on call store ⌝ }
+{
+    Row {
+        second,
+        watts,
+        on,
+        sets: u32::count_ones(on),
+        call: call as u32,
+        store,
     }
 }

@@ -9,15 +9,14 @@ ghost use Rattle.dispatch.specs.Quiet.{sinceQuiet};
 ghost use Rattle.dispatch.specs.QuietSecond.{Calm, quietStepped};
 use crate::commit::wanted_now;
 use crate::parts::Moment;
+use crate::parts::moment_after;
+use crate::parts::row_of;
 use crate::quiet::count_quiet;
-use crate::totals::plus;
 use commitment::configuration::chosen;
-use commitment::configuration::since_after;
 use commitment::setpoint::held_after;
 use flows::amounts::decide;
 use flows::amounts::shed_decided;
 use flows::flow::flow;
-use rules::run::Held;
 use rules::run::Inputs;
 use rules::run::Row;
 use rules::run::SetState;
@@ -60,56 +59,25 @@ pub(crate) fn quiet_step(
     let battery = st.battery;
     let sets = st.sets;
     let setpoint = moment.setpoint;
-    let totals = moment.totals;
     let called = moment.called;
     let since = moment.since;
     let done = moment.done;
-    let flows = flow(
-        battery,
-        moment.store,
-        quiet.cap,
-        quiet.floor,
-        decided[0],
-        inputs,
-    );
+    let on = quiet.on;
+    let cap = quiet.cap;
+    let floor = quiet.floor;
+    let flows = flow(battery, moment.store, cap, floor, decided[0], inputs);
     let watts = flows.watts;
-    let new = shed_decided(
-        control,
-        quiet.cap,
-        inputs.load,
-        watts.solar,
-        inputs.sheddable,
-    );
+    let store = flows.store;
+    let new = shed_decided(control, cap, inputs.load, watts.solar, inputs.sheddable);
     decide(control.delay, new, decided);
-    count_quiet(
-        sets,
-        sums,
-        lines,
-        quiet.on,
-        watts.diesel,
-        quiet.cap as u64,
-        energies,
-        fuels,
-    );
+    let diesel = watts.diesel;
+    let whole = quiet.cap as u64;
+    count_quiet(sets, sums, lines, on, diesel, whole, energies, fuels);
     let wanted = wanted_now(control, watts, inputs.sheddable);
     let held = held_after(control.k, setpoint, wanted);
     let call = chosen(st, caps, quiet.barred, held, called, since, done);
-    let added = plus(totals, watts);
-    let next = Moment {
-        done: done + 1,
-        since: since_after(call, called, since, done),
-        called: call,
-        store: flows.store,
-        setpoint: Held::At(held),
-        totals: added,
-    };
-    let row = Row {
-        second: done,
-        watts,
-        on: quiet.on,
-        sets: u32::count_ones(quiet.on),
-        call: call as u32,
-        store: flows.store,
-    };
-    QuietStepped { moment: next, row }
+    QuietStepped {
+        moment: moment_after(moment, call, held, store, watts),
+        row: row_of(done, watts, on, call, store),
+    }
 }

@@ -7,10 +7,9 @@ ghost use Rattle.dispatch.specs.Parts.{runOf, SteppedTo};
 use crate::commit::commit;
 use crate::commit::wanted_now;
 use crate::parts::Moment;
+use crate::parts::moment_after;
+use crate::parts::row_of;
 use crate::supply::supply;
-use crate::totals::plus;
-use commitment::configuration::since_after;
-use rules::run::Held;
 use rules::run::Inputs;
 use rules::run::Row;
 use rules::run::SetState;
@@ -36,37 +35,20 @@ pub(crate) fn step(
 {
     let control = st.control;
     let setpoint = moment.setpoint;
-    let totals = moment.totals;
     let called = moment.called;
     let since = moment.since;
     let done = moment.done;
     let supplied = supply(st, before, moment, inputs, decided);
     let watts = supplied.watts;
     let ran = supplied.states;
+    let store = supplied.store;
     let wanted = wanted_now(control, watts, inputs.sheddable);
     let committed = commit(st, caps, ran, setpoint, wanted, called, since, done);
     let states = committed.states;
     let call = committed.call;
-    let sums = plus(totals, watts);
-    let next = Moment {
-        done: done + 1,
-        since: since_after(call, called, since, done),
-        called: call,
-        store: supplied.store,
-        setpoint: Held::At(committed.held),
-        totals: sums,
-    };
-    let row = Row {
-        second: done,
-        watts,
-        on: supplied.on,
-        sets: u32::count_ones(supplied.on),
-        call: call as u32,
-        store: supplied.store,
-    };
     Stepped {
-        moment: next,
+        moment: moment_after(moment, call, committed.held, store, watts),
         states,
-        row,
+        row: row_of(done, watts, supplied.on, call, store),
     }
 }

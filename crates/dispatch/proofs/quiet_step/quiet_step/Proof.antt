@@ -19,7 +19,7 @@ tables c =
 
 slice-read-flow : tie.Need-slice-read-flow
 slice-read-flow c =
-    let start = c .before .before .before .before .before .before .before .before in
+    let start = c .before .before .before .before .before .before .before in
     omega (arith, start .pre .3)
 
 flow-requires : tie.Need-flow-requires
@@ -31,19 +31,19 @@ shed-decided-requires c κs = search needs
 decide-requires : tie.Need-decide-requires
 decide-requires c κs = search needs
 
-cast-count-quiet : tie.Need-cast-count-quiet
-cast-count-quiet c = search needs
+cast-whole : tie.Need-cast-whole
+cast-whole c = search needs
 
 count-quiet-requires : tie.Need-count-quiet-requires
 count-quiet-requires c κs =
     let flowed = c .before .before .before .before .before .before .before .before .before in
-    let start = flowed .before .before .before .before .before .before .before .before .before in
+    let start = flowed .before .before .before .before .before .before .before .before in
     (addable (start .args .st) (tables start) (start .args .base) (start .args .quiet) (start .args .ran) (start .pre .0) (start .args .moment) (now (start .args .energies)) (now (start .args .fuels)) (now (start .args .decided)) (start .args .inputs) (start .pre .1) _ (flowed .flow .ensures .0) (start .pre .4) (start .pre .5), start .pre .6)
 
 wanted-now-requires : tie.Need-wanted-now-requires
 wanted-now-requires c κs =
     let flowed = c .before .before .before .before .before .before .before .before .before .before .before .before .before .before in
-    let start = flowed .before .before .before .before .before .before .before .before .before in
+    let start = flowed .before .before .before .before .before .before .before .before in
     wantable-now (start .args .st) (tables start) (start .args .base) (start .args .quiet) (start .args .ran) (start .pre .0) (start .args .moment) (now (start .args .energies)) (now (start .args .fuels)) (now (start .args .decided)) (start .args .inputs) (start .pre .1) _ (flowed .flow .ensures .0)
 
 held-after-requires : tie.Need-held-after-requires
@@ -52,33 +52,36 @@ held-after-requires c κs = search needs
 chosen-requires : tie.Need-chosen-requires
 chosen-requires c κs = search needs
 
-plus-requires : tie.Need-plus-requires
-plus-requires c κs =
-    let start = c .before .before .before .before .before .before .before .before .before .before .before .before .before .before .before .before .before .before .before .before .before .before .before .before .before .before in
-    small-totals (start .args .st) (tables start) (start .args .base) (start .args .quiet) (start .args .ran) (start .pre .0) (start .args .moment) (now (start .args .energies)) (now (start .args .fuels)) (now (start .args .decided)) (start .args .inputs) (start .pre .1)
-
-add-t31 : tie.Need-add-t31
-add-t31 c =
-    let start = c .before .before .before .before .before .before .before .before .before .before .before .before .before .before .before .before .before .before .before .before .before .before .before .before .before .before .before in
-    record { fits = omega (arith, start .pre .1 .not-ended) }
-
-since-after-requires : tie.Need-since-after-requires
-since-after-requires c κs = search needs
-
-cast-t40 : tie.Need-cast-t40
-cast-t40 c =
-    let choosing = c .before .before .before in
+moment-after-requires : tie.Need-moment-after-requires
+moment-after-requires c κs =
+    let choosing = c in
     let holding = choosing .before in
     let wanting = holding .before in
     let added = wanting .before .before .before .before .before in
     let left = added .before .before .before .before .before .before in
     let shed = left .before .before in
     let flowed = shed .before .before in
-    let start = flowed .before .before .before .before .before .before .before .before .before in
-    omega (arith, quiet-call-most (start .args .st) (tables start) (start .args .base) (start .args .quiet) (start .args .ran) (start .pre .0) (start .args .moment) (now (start .args .energies)) (now (start .args .fuels)) (now (start .args .decided)) (start .args .inputs) (start .pre .1) _ (flowed .flow .ensures .0) _ (flowed .flow .ensures .1) _ (shed .shed-decided .ensures) (start .pre .3) _ (left .decide .ensures) _ _ (added .count-quiet .ensures .0) (added .count-quiet .ensures .1) _ (wanting .wanted-now .ensures) _ (holding .held-after .ensures) _ (λ states e. choosing .chosen .ensures states e (start .pre .2)))
+    let start = flowed .before .before .before .before .before .before .before .before in
+    (small-totals (start .args .st) (tables start) (start .args .base) (start .args .quiet) (start .args .ran) (start .pre .0) (start .args .moment) (now (start .args .energies)) (now (start .args .fuels)) (now (start .args .decided)) (start .args .inputs) (start .pre .1), omega (arith, start .pre .1 .not-ended))
+
+row-of-requires : tie.Need-row-of-requires
+row-of-requires c κs =
+    let choosing = c .before in
+    let holding = choosing .before in
+    let wanting = holding .before in
+    let added = wanting .before .before .before .before .before in
+    let left = added .before .before .before .before .before .before in
+    let shed = left .before .before in
+    let flowed = shed .before .before in
+    let start = flowed .before .before .before .before .before .before .before .before in
+    quiet-call-most (start .args .st) (tables start) (start .args .base) (start .args .quiet) (start .args .ran) (start .pre .0) (start .args .moment) (now (start .args .energies)) (now (start .args .fuels)) (now (start .args .decided)) (start .args .inputs) (start .pre .1) _ (flowed .flow .ensures .0) _ (flowed .flow .ensures .1) _ (shed .shed-decided .ensures) (start .pre .3) _ (left .decide .ensures) _ _ (added .count-quiet .ensures .0) (added .count-quiet .ensures .1) _ (wanting .wanted-now .ensures) _ (holding .held-after .ensures) _ (λ states e. choosing .chosen .ensures states e (start .pre .2))
 
 same-length : tie.Need-same-length
-same-length c = search needs
+same-length c =
+    let wanting = c .before .before .before .before in
+    let added = wanting .before .before .before .before .before in
+    let left = added .before .before .before .before .before .before in
+    left .decide .kept .1 .1 .0
 
 same-length-2 : tie.Need-same-length-2
 same-length-2 c = search needs
@@ -88,18 +91,16 @@ same-length-3 c = search needs
 
 returns : tie.Need-returns
 returns c =
-    let sincing = c .before in
-    let summed = sincing .before in
-    let choosing = summed .before in
+    let choosing = c .before .before in
     let holding = choosing .before in
     let wanting = holding .before in
     let added = wanting .before .before .before .before .before in
     let left = added .before .before .before .before .before .before in
     let shed = left .before .before in
     let flowed = shed .before .before in
-    let start = flowed .before .before .before .before .before .before .before .before .before in
-    let same = quiet-step-now (start .args .st) (tables start) (start .args .base) (start .args .quiet) (start .args .ran) (start .pre .0) (start .args .moment) (now (start .args .energies)) (now (start .args .fuels)) (now (start .args .decided)) (start .args .inputs) (start .pre .1) _ (flowed .flow .ensures .0) _ (flowed .flow .ensures .1) _ (shed .shed-decided .ensures) (start .pre .3) _ (left .decide .ensures) _ _ (added .count-quiet .ensures .0) (added .count-quiet .ensures .1) _ (wanting .wanted-now .ensures) _ (holding .held-after .ensures) _ (λ states e. choosing .chosen .ensures states e (start .pre .2)) _ (sincing .since-after .ensures) _ (summed .plus .ensures) in
-    record { after = ap (λ (z : Step). z .run) same; row = ap (λ (z : Step). z .row) same }
+    let start = flowed .before .before .before .before .before .before .before .before in
+    let same = quiet-step-now (start .args .st) (tables start) (start .args .base) (start .args .quiet) (start .args .ran) (start .pre .0) (start .args .moment) (now (start .args .energies)) (now (start .args .fuels)) (now (start .args .decided)) (start .args .inputs) (start .pre .1) _ (flowed .flow .ensures .0) _ (flowed .flow .ensures .1) _ (shed .shed-decided .ensures) (start .pre .3) _ (left .decide .ensures) _ _ (added .count-quiet .ensures .0) (added .count-quiet .ensures .1) _ (wanting .wanted-now .ensures) _ (holding .held-after .ensures) _ (λ states e. choosing .chosen .ensures states e (start .pre .2)) _ refl _ refl in
+    rw (c .before .moment-after .ensures, c .row-of .ensures) (record { after = ap (λ (z : Step). z .run) same; row = ap (λ (z : Step). z .row) same })
 
 pub quiet-step-spec : {M : Type 1} → statement M
 quiet-step-spec =
@@ -109,15 +110,13 @@ quiet-step-spec =
     flow-requires
     shed-decided-requires
     decide-requires
-    cast-count-quiet
+    cast-whole
     count-quiet-requires
     wanted-now-requires
     held-after-requires
     chosen-requires
-    plus-requires
-    add-t31
-    since-after-requires
-    cast-t40
+    moment-after-requires
+    row-of-requires
     same-length
     same-length-2
     same-length-3

@@ -21,46 +21,44 @@ tables c =
     record { sets-length = simp length-map at (good .0 .1 .0 .1); configs-length = simp length-map at (good .1 .0 .1 .0 .1) }
 
 supply-requires : tie.Need-supply-requires
-supply-requires c κs = let start = c .before .before .before .before in (start .pre .0, start .pre .2)
+supply-requires c κs = let start = c .before .before .before in (start .pre .0, start .pre .2)
 
 wanted-now-requires : tie.Need-wanted-now-requires
 wanted-now-requires c κs =
     let supplied = c .before .before .before .before in
-    let start = supplied .before .before .before .before .before in
+    let start = supplied .before .before .before .before in
     rw (supplied .supply .ensures .watts) (wantable (start .args .st) (tables start) (runOf (start .args .moment) (start .args .before) (now (start .args .decided))) (start .args .inputs) (start .pre .0))
 
 commit-requires : tie.Need-commit-requires
 commit-requires c κs =
     let supplied = c .before .before .before .before .before in
-    let start = supplied .before .before .before .before .before in
+    let start = supplied .before .before .before .before in
     (rw (supplied .supply .ensures .states) (switchable (start .args .st) (tables start) (runOf (start .args .moment) (start .args .before) (now (start .args .decided))) (start .args .inputs) (start .pre .0) (wattsNow (start .args .st) (runOf (start .args .moment) (start .args .before) (now (start .args .decided))) (start .args .inputs))), start .pre .1)
 
-plus-requires : tie.Need-plus-requires
-plus-requires c κs = let start = c .before .before .before .before .before .before .before .before .before .before .before .before in totals-small (start .args .st) (tables start) (runOf (start .args .moment) (start .args .before) (now (start .args .decided))) (start .args .inputs) (start .pre .0)
+moment-after-requires : tie.Need-moment-after-requires
+moment-after-requires c κs =
+    let start = c .before .before .before .before .before .before .before .before .before .before .before in
+    (totals-small (start .args .st) (tables start) (runOf (start .args .moment) (start .args .before) (now (start .args .decided))) (start .args .inputs) (start .pre .0), omega (arith, start .pre .0 .not-ended))
 
-add-t25 : tie.Need-add-t25
-add-t25 c = record { fits = omega (arith, c .before .before .before .before .before .before .before .before .before .before .before .before .before .pre .0 .not-ended) }
-
-since-after-requires : tie.Need-since-after-requires
-since-after-requires c κs = search needs
-
-cast-t26 : tie.Need-cast-t26
-cast-t26 c =
-    let wanted = c .before .before .before .before .before in
+row-of-requires : tie.Need-row-of-requires
+row-of-requires c κs =
+    let committed = c .before .before in
+    let wanted = committed .before in
     let supplied = wanted .before .before .before .before .before in
-    let start = supplied .before .before .before .before .before in
-    omega (arith, call-now (start .args .st) (runOf (start .args .moment) (start .args .before) (now (start .args .decided))) (start .args .inputs) _ _ (supplied .supply .ensures) _ (wanted .wanted-now .ensures) _ (c .before .before .before .before .commit .ensures), call-most (start .args .st) (tables start) (runOf (start .args .moment) (start .args .before) (now (start .args .decided))) (start .args .inputs) (start .pre .0))
+    let start = supplied .before .before .before .before in
+    omega (arith, call-now (start .args .st) (runOf (start .args .moment) (start .args .before) (now (start .args .decided))) (start .args .inputs) _ _ (supplied .supply .ensures) _ (wanted .wanted-now .ensures) _ (committed .commit .ensures), call-most (start .args .st) (tables start) (runOf (start .args .moment) (start .args .before) (now (start .args .decided))) (start .args .inputs) (start .pre .0))
 
 same-length : tie.Need-same-length
 same-length c = search needs
 
 returns : tie.Need-returns
 returns c =
-    let wanted = c .before .before .before .before .before in
+    let committed = c .before .before .before in
+    let wanted = committed .before in
     let supplied = wanted .before .before .before .before .before in
-    let start = supplied .before .before .before .before .before in
-    let same = step-now (start .args .st) (runOf (start .args .moment) (start .args .before) (now (start .args .decided))) (start .args .inputs) _ _ (supplied .supply .ensures) _ (wanted .wanted-now .ensures) _ (c .before .before .before .before .commit .ensures) _ (c .before .since-after .ensures) _ (c .before .before .plus .ensures) in
-    record { after = ap (λ (z : Step). z .run) same; row = ap (λ (z : Step). z .row) same }
+    let start = supplied .before .before .before .before in
+    let same = step-now (start .args .st) (runOf (start .args .moment) (start .args .before) (now (start .args .decided))) (start .args .inputs) _ _ (supplied .supply .ensures) _ (wanted .wanted-now .ensures) _ (committed .commit .ensures) _ refl _ refl in
+    rw (c .before .moment-after .ensures, c .row-of .ensures) (record { after = ap (λ (z : Step). z .run) same; row = ap (λ (z : Step). z .row) same })
 
 pub step-spec : {M : Type 1} → statement M
 step-spec =
@@ -69,9 +67,7 @@ step-spec =
     supply-requires
     wanted-now-requires
     commit-requires
-    plus-requires
-    add-t25
-    since-after-requires
-    cast-t26
+    moment-after-requires
+    row-of-requires
     same-length
     returns)
