@@ -118,7 +118,7 @@ fn quiet_seconds(
     }
 }
 
-// Those that follow a second: none, where commands would change a set.
+// Those that follow a second: none, where no more are asked or commands would change a set.
 pub(crate) fn following(
     st: Station,
     caps: &[u32; 64],
@@ -136,15 +136,20 @@ pub(crate) fn following(
     requires { ⌜ Following st states moment (now loads) (now solars) (now sheddables) asked from at (now decided) (now rows) × Rated (st .sets) (st .configs) (now caps) ⌝ }
     ensures { λ r. ⌜ GoesOn st (now (loads .entry)) (now (solars .entry)) (now (sheddables .entry)) (now (rows .entry)) (runOf moment states (now (decided .entry))) at from (now (rows .exit)) (runOf (r .moment) (r .states) (now (decided .exit))) (r .at) (r .next) ⌝ }
 {
+    let none = Went {
+        moment,
+        states,
+        at,
+        next: from,
+    };
+    // the last second asked has none after it, and a stretch would be made ready in vain
+    if asked <= from {
+        return none;
+    }
     let configs = st.configs;
     let called = mask_called(configs, moment.called);
     if !unmoved_all(states, called) {
-        return Went {
-            moment,
-            states,
-            at,
-            next: from,
-        };
+        return none;
     }
     quiet_seconds(
         st,
