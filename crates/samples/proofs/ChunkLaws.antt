@@ -24,8 +24,8 @@ FedRight c chunk d = (rest : List ℕ) → checkedWith c (chunk ++ rest) ≡ che
 pub feeds-right : {c last : SampleCheck} {chunks : List (List ℕ)} → Feeds FedRight c chunks last → (rest : List ℕ) → checkedWith c (joined chunks ++ rest) ≡ checkedWith last rest
 unfolding joined
 feeds-right Feeds.none rest = refl
-feeds-right {c} (Feeds.more {chunk = chunk} {chunks = chunks} one more) rest =
-    ap (checkedWith c) (append-assoc chunk (joined chunks) rest) ∙ one (joined chunks ++ rest) ∙ feeds-right more rest
+feeds-right {c} (Feeds.more {chunk = chunk} {chunks = chunks} one later) rest =
+    ap (checkedWith c) (append-assoc chunk (joined chunks) rest) ∙ one (joined chunks ++ rest) ∙ feeds-right later rest
 
 -- once a line was refused, no rest of the file changes the answer
 pub refused-for-good : (c : SampleCheck) (rest : List ℕ) → isRefused (c .reader .stage) ≡ true → checkedWith c [] ≡ checkedWith c rest

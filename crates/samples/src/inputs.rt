@@ -104,6 +104,11 @@ fn last_comes_in(held: Sample, last: Sample, second: usize) -> InForce
 fn comes_in(held: Sample, ahead: Ahead, second: usize) -> InForce
     ensures { λ r. ⌜ r ≡ comesIn held ahead second ⌝ }
 {
+    let still = InForce {
+        now: held,
+        ahead,
+        unread: false,
+    };
     match ahead {
         Ahead::Unread => InForce {
             now: held,
@@ -118,33 +123,17 @@ fn comes_in(held: Sample, ahead: Ahead, second: usize) -> InForce
                     unread: true,
                 };
             }
-            InForce {
-                now: held,
-                ahead,
-                unread: false,
-            }
+            still
         }
         Ahead::LastTwo(next, last) => {
             if wide(next.at) <= second {
                 return last_comes_in(next, last, second);
             }
-            InForce {
-                now: held,
-                ahead,
-                unread: false,
-            }
+            still
         }
         Ahead::Last(last) => last_comes_in(held, last, second),
-        Ahead::Ended => InForce {
-            now: held,
-            ahead,
-            unread: false,
-        },
-        Ahead::Refused(_) => InForce {
-            now: held,
-            ahead,
-            unread: false,
-        },
+        Ahead::Ended => still,
+        Ahead::Refused(_) => still,
     }
 }
 

@@ -8,5 +8,7 @@ pub mod ColumnsRead
 pub mod HeadingLineLaws
 pub mod RowLaws
 pub mod RowCells
+pub mod Least
+pub mod LineEnd
 pub mod UsualLaws
 pub mod PowersLaws

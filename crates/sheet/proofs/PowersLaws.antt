@@ -1,8 +1,8 @@
 -- Powers one after the other, each after a comma. Assumes nothing.
 use Prim.Native.Nat.{ℕ, zero, suc, _+_, _*_, _≤_, _<_}
-use mathlib.Core.Path.{_≡_, refl, sym, ap, subst, _∙_}
-use mathlib.Core.Bool.{Bool, true, false, _||_}
-use mathlib.Core.List.{List, [], _∷_}
+use mathlib.Core.Path.{_≡_, sym, subst}
+use mathlib.Core.Bool.{true, false, _||_}
+use mathlib.Core.List.{List}
 use native.Mathlib.Omega.{arith}
 use native.Mathlib.Numerals.{add-one}
 use lib.Dec.{ltb, eqb}
@@ -12,7 +12,7 @@ use Rattle.sheet.specs.declared.headings.Columns.{Columns}
 use Rattle.sheet.specs.declared.usual.DigitRun.{DigitRun}
 use Rattle.sheet.specs.declared.usual.PowerRun.{PowerRun}
 use Rattle.sheet.specs.declared.usual.Usual.{Usual}
-use Rattle.sheet.specs.Usual.{PowerTaken, AfterComma, PowersTaken, DigitsTaken, PowersNamed, usualValues, usualOf}
+use Rattle.sheet.specs.Usual.{PowerTaken, AfterComma, PowersTaken, EndTaken, DigitsTaken, PowersNamed, usualValues, usualOf}
 use Rattle.sheet.proofs.UsualLaws.{power-end, usual-line}
 
 -- where they end
@@ -46,10 +46,10 @@ power-more n s at end watts r h before (is, p) =
     ) in
     subst (λ (m : ℕ). PowersTaken m s at (r .end) (set watts n (r .watts))) (sym (add-one n)) one
 
--- the line of a time, three powers and LF
-pub powers-line : (columns : Columns) (s : List ℕ) (at : ℕ) (time : DigitRun) (end : ℕ) (watts : List ℕ) → PowersNamed columns → at + 44 ≤ length s
-    → DigitsTaken s at 9 0 time → (eqb (time .end) at || ltb 316223999 (time .number)) ≡ false → PowersTaken 3 s (time .end) end watts → getD s end 0 ≡ 10
-    → (r : Usual) → usualValues columns (time .number) (record { second = getD watts 0 0; third = getD watts 1 0; fourth = getD watts 2 0 }) (end + 1) r → usualOf columns s at r
-powers-line columns s at time end watts named room t tests (m₂, (m₁, (m₀, z, b), c), d) lf r u =
+-- the line of a time, three powers and its end
+pub powers-line : (columns : Columns) (s : List ℕ) (at : ℕ) (time : DigitRun) (end : ℕ) (watts : List ℕ) (next : ℕ) → PowersNamed columns → at + 44 ≤ length s
+    → DigitsTaken s at 9 0 time → (eqb (time .end) at || ltb 316223999 (time .number)) ≡ false → PowersTaken 3 s (time .end) end watts → EndTaken s end next
+    → (r : Usual) → usualValues columns (time .number) (record { second = getD watts 0 0; third = getD watts 1 0; fourth = getD watts 2 0 }) next r → usualOf columns s at r
+powers-line columns s at time end watts next named room t tests (m₂, (m₁, (m₀, z, b), c), d) e r u =
     let b′ : AfterComma s (time .end) (record { end = m₁; watts = getD watts 0 0; usual = true }) = subst (λ (m : ℕ). AfterComma s m (record { end = m₁; watts = getD watts 0 0; usual = true })) z b in
-    usual-line columns s at time (record { end = m₁; watts = getD watts 0 0; usual = true }) (record { end = m₂; watts = getD watts 1 0; usual = true }) (record { end = end; watts = getD watts 2 0; usual = true }) named room t tests b′ c d lf r u
+    usual-line columns s at time (record { end = m₁; watts = getD watts 0 0; usual = true }) (record { end = m₂; watts = getD watts 1 0; usual = true }) (record { end = end; watts = getD watts 2 0; usual = true }) next named room t tests b′ c d e r u

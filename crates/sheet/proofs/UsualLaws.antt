@@ -9,66 +9,28 @@ use native.Mathlib.Numerals.{add-one}
 use lib.Dec.{leb, ltb, eqb}
 use lib.ListN.{length, take, drop, getD, length-append, length-take, length-drop, take-append-drop}
 use lib.Seq.{take-suc, getD-drop, drop-drop, drop-cons}
-use borrow.Author.Tests.{le-leb, leb-true, ltb-true, ltb-false, eqb-false, ne-eqb, eq-eqb}
+use borrow.Author.Tests.{le-leb, leb-true, ltb-true, ltb-false, eqb-false, eq-eqb}
 use Rattle.bytes.specs.Bytes.{indexAfter, indexOf}
 use Rattle.rules.specs.declared.samples.Sample.{Sample}
-use Rattle.rules.specs.Numbers.{if_then_else_, within, every, tab}
-use Rattle.rules.specs.Bytes.{LF, CR, comma, point, digit0, isDigit, allDigits, digits, valueFrom, value, inFront, parts}
-use Rattle.rules.specs.Lines.{withoutCR, ended}
-use Rattle.rules.specs.Answers.{Answer, accepted, refused, need, _>>=_, _>>_}
-use Rattle.rules.specs.SampleFile.{sampleSheet, limited, timeCell, powerForm, powerValue, powerCell, cell, valueUnder, agreeing, sampleOf}
-use Rattle.rules.proofs.Tests.{never, both, and-true, within-fact, fact-within, every-append}
+use Rattle.rules.specs.Numbers.{if_then_else_, within, tab}
+use Rattle.rules.specs.Bytes.{LF, comma, point, digit0, isDigit, allDigits, digits, valueFrom, value, inFront, parts}
+use Rattle.rules.specs.Lines.{ended}
+use Rattle.rules.specs.Answers.{accepted, need, _>>=_, _>>_}
+use Rattle.rules.specs.SampleFile.{sampleSheet, limited, timeCell, powerForm, powerValue, powerCell, cell, valueUnder, sampleOf}
+use Rattle.rules.proofs.Tests.{never, both, and-true, fact-within, every-append}
 use Rattle.sheet.specs.declared.headings.Columns.{Columns}
 use Rattle.sheet.specs.declared.usual.DigitRun.{DigitRun}
 use Rattle.sheet.specs.declared.usual.PowerRun.{PowerRun}
 use Rattle.sheet.specs.Rows.{rowIn, rowOfValues, rowOfCells}
 use Rattle.sheet.specs.declared.usual.Usual.{Usual}
-use Rattle.sheet.specs.Usual.{Part, DigitsTaken, PowerTaken, AfterComma, PowersNamed, UsualRight, usualValues, usualOf}
+use Rattle.sheet.specs.Usual.{Part, DigitsTaken, PowerTaken, AfterComma, EndTaken, PowersNamed, usualValues, usualOf}
 use Rattle.sheet.specs.Headings.{columnsOf}
 use Rattle.sheet.proofs.PartsAt.{part-last}
+use Rattle.sheet.proofs.Least.{Least, least-index, least-down, least-one, digits-least}
+use Rattle.sheet.proofs.LineEnd.{end-dropped, end-least}
 use Rattle.sheet.proofs.DigitLaws.{from-below, below-most}
 use Rattle.sheet.proofs.RowLaws.{one-by-one}
 use Rattle.sheet.proofs.RowCells.{four}
-
--- ---- bytes that are not below n
-
-abbrev pub Least : ℕ → List ℕ → Type 0
-Least n l = every (λ x. leb n x) l ≡ true
-
--- no byte below n stands among them
-least-index : (n c : ℕ) (l : List ℕ) → c < n → Least n l → indexOf c l ≡ length l
-unfolding every indexOf indexAfter
-least-index n c [] h a = refl
-least-index n c (x ∷ l) h a =
-    let t = both (leb n x) (every (λ x. leb n x) l) a in
-    let k = leb-true n x (t .0) in
-    rw (ne-eqb x c (λ e. omega (arith, k, e))) (ap suc (least-index n c l h (t .1)))
-
-least-down : (n m : ℕ) (l : List ℕ) → n ≤ m → Least m l → Least n l
-unfolding every
-least-down n m [] h a = refl
-least-down n m (x ∷ l) h a =
-    let t = both (leb m x) (every (λ x. leb m x) l) a in
-    let k = leb-true m x (t .0) in
-    and-true (le-leb n x (omega arith)) (least-down n m l h (t .1))
-
-least-one : (n x : ℕ) (l : List ℕ) → n ≤ x → Least n l → Least n (x ∷ l)
-unfolding every
-least-one n x l h a = and-true (le-leb n x h) a
-
-least-crless : (l : List ℕ) → Least 44 l → withoutCR l ≡ l
-unfolding withoutCR every
-least-crless [] a = refl
-least-crless (x ∷ []) a = let k = leb-true 44 x (both (leb 44 x) true a .0) in rw (ne-eqb x CR (λ e. omega (arith, k, e)))
-least-crless (x ∷ y ∷ r) a = ap (λ (l : List ℕ). x ∷ l) (least-crless (y ∷ r) (both (leb 44 x) (every (λ x. leb 44 x) (y ∷ r)) a .1))
-
-digits-least : (l : List ℕ) → allDigits l ≡ true → Least 48 l
-unfolding every allDigits
-digits-least [] a = refl
-digits-least (x ∷ l) a =
-    let t = both (isDigit x) (allDigits l) a in
-    let d = within-fact digit0 (digit0 + 9) x (t .0) in
-    and-true (le-leb 48 x (d .0)) (digits-least l (t .1))
 
 -- ---- one digit more
 
@@ -215,17 +177,19 @@ module _ (columns : Columns) (named : PowersNamed columns) (a b c d : List ℕ) 
       let one : (l m : List ℕ) → Least 44 l → Least 46 m → Least 44 (l ++ comma ∷ m) = λ l m p q. every-append (λ x. leb 44 x) l (comma ∷ m) p (least-one 44 comma m (omega arith) (least-down 44 46 m (omega arith) q)) in
       one ((a ++ comma ∷ b) ++ comma ∷ c) d (one (a ++ comma ∷ b) c (one a b (least-down 44 48 a (omega arith) clean-a) clean-b) clean-c) clean-d
 
-  pub line-whole : indexOf LF (lineOf a b c d) ≡ length (lineOf a b c d)
-  line-whole = least-index 44 10 (lineOf a b c d) (omega arith) least-line
+  module _ (s : List ℕ) (place next : ℕ) (e : EndTaken s place next) where
+    pub line-whole : indexOf LF (lineOf a b c d ++ e .dropped) ≡ length (lineOf a b c d ++ e .dropped)
+    line-whole = least-index 11 10 (lineOf a b c d ++ e .dropped) (omega arith) (every-append (λ x. leb 11 x) (lineOf a b c d) (e .dropped) (least-down 11 44 (lineOf a b c d) (omega arith) least-line) (end-least s place next e))
 
-  pub line-row : (sample : Sample) (line : ℕ) → length (lineOf a b c d) ≤ 512
-      → cell line (sampleSheet .limits) 0 a ≡ accepted at → powerCell line 50000000 b ≡ accepted x → powerCell line 50000000 c ≡ accepted y → powerCell line 50000000 d ≡ accepted z
-      → accepted sample ≡ rowOfValues columns line (at ∷ x ∷ y ∷ z ∷ []) → accepted sample ≡ rowIn columns line (ended (lineOf a b c d))
-  line-row sample line short p q r t e =
-      let cells : rowOfCells columns line (a ∷ b ∷ c ∷ d ∷ []) ≡ rowOfValues columns line (at ∷ x ∷ y ∷ z ∷ []) =
-      rw (one-by-one columns line a b c d, p, under-power line (columns .second) b x (named .second) q, under-power line (columns .third) c y (named .third) r, under-power line (columns .fourth) d z (named .fourth) t) in
-      let whole = four columns line (length (lineOf a b c d)) (lineOf a b c d) short a b c d line-parts in
-      e ∙ sym cells ∙ whole ∙ ap (λ (text : List ℕ). rowIn columns line (record { size = length (lineOf a b c d); text = text })) (sym (least-crless (lineOf a b c d) least-line))
+    pub line-row : (sample : Sample) (line : ℕ) → length (lineOf a b c d ++ e .dropped) ≤ 512
+        → cell line (sampleSheet .limits) 0 a ≡ accepted at → powerCell line 50000000 b ≡ accepted x → powerCell line 50000000 c ≡ accepted y → powerCell line 50000000 d ≡ accepted z
+        → accepted sample ≡ rowOfValues columns line (at ∷ x ∷ y ∷ z ∷ []) → accepted sample ≡ rowIn columns line (ended (lineOf a b c d ++ e .dropped))
+    line-row sample line short p q r t told =
+        let size = length (lineOf a b c d ++ e .dropped) in
+        let cells : rowOfCells columns line (a ∷ b ∷ c ∷ d ∷ []) ≡ rowOfValues columns line (at ∷ x ∷ y ∷ z ∷ []) =
+        rw (one-by-one columns line a b c d, p, under-power line (columns .second) b x (named .second) q, under-power line (columns .third) c y (named .third) r, under-power line (columns .fourth) d z (named .fourth) t) in
+        let whole = four columns line size (lineOf a b c d) short a b c d line-parts in
+        told ∙ sym cells ∙ whole ∙ ap (λ (text : List ℕ). rowIn columns line (record { size = size; text = text })) (sym (end-dropped s place next e (lineOf a b c d) least-line))
 
 -- ---- what the code asks
 
@@ -325,35 +289,36 @@ pub neither : (a b : Bool) → a || b ≡ false → (a ≡ false) × (b ≡ fals
 neither true b e = never (sym e)
 neither false b e = (refl, e)
 
-pub usual-line : (columns : Columns) (s : List ℕ) (at : ℕ) (time : DigitRun) (second third fourth : PowerRun) → PowersNamed columns → at + 44 ≤ length s
+pub usual-line : (columns : Columns) (s : List ℕ) (at : ℕ) (time : DigitRun) (second third fourth : PowerRun) (next : ℕ) → PowersNamed columns → at + 44 ≤ length s
     → DigitsTaken s at 9 0 time → (eqb (time .end) at || ltb 316223999 (time .number)) ≡ false
-    → AfterComma s (time .end) second → AfterComma s (second .end) third → AfterComma s (third .end) fourth → getD s (fourth .end) 0 ≡ 10
-    → (r : Usual) → usualValues columns (time .number) (record { second = second .watts; third = third .watts; fourth = fourth .watts }) (fourth .end + 1) r → usualOf columns s at r
-usual-line columns s at time second third fourth named room t tests b c d lf Usual.Other u = tt
-usual-line columns s at time second third fourth named room t tests b c d lf (Usual.Row x n) u =
+    → AfterComma s (time .end) second → AfterComma s (second .end) third → AfterComma s (third .end) fourth → EndTaken s (fourth .end) next
+    → (r : Usual) → usualValues columns (time .number) (record { second = second .watts; third = third .watts; fourth = fourth .watts }) next r → usualOf columns s at r
+usual-line columns s at time second third fourth next named room t tests b c d e Usual.Other u = tt
+usual-line columns s at time second third fourth next named room t tests b c d e (Usual.Row x n) u =
     let told = neither (eqb (time .end) at) (ltb 316223999 (time .number)) tests in
     let first-end = time-end s at time t in
     let second-end = power-end s (time .end + 1) second (b .1) in
     let third-end = power-end s (second .end + 1) third (c .1) in
     let fourth-end = power-end s (third .end + 1) fourth (d .1) in
     let some : 0 < length (t .taken) = some-taken (t .part .size) (eqb-false (time .end) at (told .0)) in
-    let whole : Part s at (fourth .end) (lineOf (t .taken) (b .1 .cell) (c .1 .cell) (d .1 .cell)) =
+    let text = lineOf (t .taken) (b .1 .cell) (c .1 .cell) (d .1 .cell) in
+    let whole : Part s at (fourth .end) text =
     part-then s at (third .end) (fourth .end) comma ((t .taken ++ comma ∷ b .1 .cell) ++ comma ∷ c .1 .cell) (d .1 .cell)
     (part-then s at (second .end) (third .end) comma (t .taken ++ comma ∷ b .1 .cell) (c .1 .cell)
     (part-then s at (time .end) (second .end) comma (t .taken) (b .1 .cell) (t .part) (omega arith) (b .0) (b .1 .part))
     (omega arith) (c .0) (c .1 .part)) (omega arith) (d .0) (d .1 .part) in
-    let next : n ≡ fourth .end + 1 = u .0 in
-    let inside : fourth .end < length s = omega arith in
-    let after : drop (fourth .end) s ≡ LF ∷ drop n s = drop-cons s (fourth .end) 0 inside ∙ ap (λ (y : ℕ). y ∷ drop (suc (fourth .end)) s) lf ∙ ap (λ (k : ℕ). LF ∷ drop k s) (sym (next ∙ add-one (fourth .end))) in
+    let after : drop (fourth .end) s ≡ e .dropped ++ LF ∷ drop n s = e .part .is ∙ append-assoc (e .dropped) (LF ∷ []) (drop next s) ∙ ap (λ (k : ℕ). e .dropped ++ LF ∷ drop k s) (sym (u .0)) in
+    let line-size = length-append text (e .dropped) in
+    let end-size = length-append (e .dropped) (LF ∷ []) in
     let clean = digits-least (t .taken) (t .all) in
     record {
-      text = lineOf (t .taken) (b .1 .cell) (c .1 .cell) (d .1 .cell);
-      is = whole .is ∙ ap (λ (l : List ℕ). lineOf (t .taken) (b .1 .cell) (c .1 .cell) (d .1 .cell) ++ l) after;
-      whole = line-whole columns named (t .taken) (b .1 .cell) (c .1 .cell) (d .1 .cell) (time .number) (second .watts) (third .watts) (fourth .watts) clean (b .1 .clean) (c .1 .clean) (d .1 .clean);
-      onward = omega (arith, next, whole .size);
-      within = omega (arith, next);
-      row = λ line. line-row columns named (t .taken) (b .1 .cell) (c .1 .cell) (d .1 .cell) (time .number) (second .watts) (third .watts) (fourth .watts) clean (b .1 .clean) (c .1 .clean) (d .1 .clean)
-          x line (omega (arith, whole .size)) (time-cell line (t .taken) (time .number) some (t .few) (t .all) (t .number) (ltb-false 316223999 (time .number) (told .1))) (b .1 .value line) (c .1 .value line) (d .1 .value line) (u .1 line);
+      text = text ++ e .dropped;
+      is = whole .is ∙ ap (λ (l : List ℕ). text ++ l) after ∙ sym (append-assoc text (e .dropped) (LF ∷ drop n s));
+      whole = line-whole columns named (t .taken) (b .1 .cell) (c .1 .cell) (d .1 .cell) (time .number) (second .watts) (third .watts) (fourth .watts) clean (b .1 .clean) (c .1 .clean) (d .1 .clean) s (fourth .end) next e;
+      onward = omega (arith, u .0, whole .size, e .part .size, end-size);
+      within = omega (arith, u .0, e .part .size, e .few, end-size);
+      row = λ line. line-row columns named (t .taken) (b .1 .cell) (c .1 .cell) (d .1 .cell) (time .number) (second .watts) (third .watts) (fourth .watts) clean (b .1 .clean) (c .1 .clean) (d .1 .clean) s (fourth .end) next e
+          x line (omega (arith, whole .size, line-size, e .few)) (time-cell line (t .taken) (time .number) some (t .few) (t .all) (t .number) (ltb-false 316223999 (time .number) (told .1))) (b .1 .value line) (c .1 .value line) (d .1 .value line) (u .1 line);
     }
   where
     some-taken : {m : ℕ} → at + m ≡ time .end → (time .end ≡ at → ⊥) → 0 < m

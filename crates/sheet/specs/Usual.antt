@@ -1,14 +1,14 @@
 -- Document 01, "The sample file": what reading the usual row in one pass owes. It is a row of `Rows`, and nothing is defined anew.
 use Prim.Native.Nat.{ℕ, zero, suc, _+_, _≤_, _<_}
 use mathlib.Core.Path.{_≡_}
-use mathlib.Core.Bool.{Bool, true}
+use mathlib.Core.Bool.{true}
 use mathlib.Core.List.{List, [], _∷_, _++_}
-use lib.Dec.{leb}
+use lib.Dec.{leb, eqb}
 use lib.ListN.{length, drop, getD}
 use Rattle.bytes.specs.Bytes.{indexOf}
 use Rattle.rules.specs.declared.samples.Sample.{Sample}
 use Rattle.rules.specs.Numbers.{every}
-use Rattle.rules.specs.Bytes.{LF, allDigits, valueFrom}
+use Rattle.rules.specs.Bytes.{LF, CR, allDigits, valueFrom}
 use Rattle.rules.specs.Lines.{ended}
 use Rattle.rules.specs.Answers.{accepted}
 use Rattle.rules.specs.SampleFile.{powerCell}
@@ -48,6 +48,13 @@ AfterComma s at r = (getD s at 0 ≡ 44) × PowerTaken s (at + 1) r
 abbrev pub PowersTaken : ℕ → List ℕ → ℕ → ℕ → List ℕ → Type 0
 PowersTaken zero s at end watts = end ≡ at
 PowersTaken (suc n) s at end watts = (middle : ℕ) × PowersTaken n s at middle watts × AfterComma s middle (record { end = end; watts = getD watts n 0; usual = true })
+
+-- "A line ends at LF (one CR just before it is dropped)": the end of a line from a place on, with one CR or none
+pub record EndTaken (s : List ℕ) (at next : ℕ) : Type 0 where
+  pub dropped : List ℕ
+  pub few : length dropped ≤ 1
+  pub all : every (λ x. eqb x CR) dropped ≡ true
+  pub part : Part s at next (dropped ++ LF ∷ [])
 
 -- the line from a place on, which ends at the LF before `next`, is a row
 pub record UsualRight (columns : Columns) (s : List ℕ) (at : ℕ) (x : Sample) (next : ℕ) : Type 0 where

@@ -1,10 +1,10 @@
-// The usual row in one pass over its bytes: every cell has its form and is within its limit, and LF follows the last. Any other
-// row is left to `rows`, which says what is wrong with it.
+// The usual row in one pass over its bytes: every cell has its form and is within its limit, and LF, or CR and LF, follows the last.
+// Any other row is left to `rows`, which says what is wrong with it.
 ghost use mathlib.Core.Path.{_≡_};
 ghost use mathlib.Core.Bool.{true};
 ghost use Prim.Native.Nat.{ℕ, _+_, _-_, _^_, _≤_, _<_};
 ghost use lib.ListN.{length, getD};
-ghost use Rattle.sheet.specs.Usual.{DigitsTaken, PowerTaken, PowersTaken, PowersNamed, usualOf};
+ghost use Rattle.sheet.specs.Usual.{DigitsTaken, PowerTaken, PowersTaken, EndTaken, PowersNamed, usualOf};
 use crate::headings::Columns;
 use crate::numbers::last_worth;
 use crate::numbers::wide;
@@ -17,8 +17,7 @@ use rules::limits::MOST_TIME;
 use rules::limits::MOST_TIME_DIGITS;
 use rules::samples::Sample;
 
-// The most bytes that a usual row has, with its LF: 9 digits, three powers of 10 bytes, three commas; and one more, so that each
-// byte that is asked is there.
+// The most bytes that a usual row has: 9 digits, three powers of 10 bytes, three commas, CR and LF.
 const MOST_USUAL: usize = 44;
 
 pub enum Usual {
@@ -44,6 +43,12 @@ struct PowerRun {
 struct PowersRun {
     end: usize,
     watts: [u32; 3],
+    usual: bool,
+}
+
+// The place after a line's end.
+struct EndRun {
+    next: usize,
     usual: bool,
 }
 
@@ -139,6 +144,24 @@ fn powers_after(text: &[u8], comma: usize) -> PowersRun
     }
 }
 
+// The end of a line at a place: "at LF (one CR just before it is dropped)".
+fn end_from(text: &[u8], at: usize) -> EndRun
+    requires { ⌜ at + 2 ≤ length (now text) ⌝ }
+    ensures { λ r. ⌜ (r .usual ≡ true → EndTaken (now (text .entry)) at (r .next)) ⌝ }
+{
+    let second = at + 1;
+    if text[at] == b'\n' {
+        return EndRun {
+            next: second,
+            usual: true,
+        };
+    }
+    EndRun {
+        next: second + 1,
+        usual: (text[at] == b'\r') & (text[second] == b'\n'),
+    }
+}
+
 // Whether each column after the time's has the name of a power.
 fn powers_named(columns: Columns) -> bool
     ensures { λ r. ⌜ (r ≡ true → PowersNamed columns) ⌝ }
@@ -179,11 +202,11 @@ pub fn usual_row(columns: Columns, text: &[u8], at: usize) -> Usual
         return Usual::Other;
     }
     let cells = powers_after(text, time.end);
-    let end = cells.end;
     if !cells.usual {
         return Usual::Other;
     }
-    if text[end] != b'\n' {
+    let end = end_from(text, cells.end);
+    if !end.usual {
         return Usual::Other;
     }
     let watts = cells.watts;
@@ -203,5 +226,5 @@ pub fn usual_row(columns: Columns, text: &[u8], at: usize) -> Usual
         solar: value_under(2, columns, powers),
         sheddable,
     };
-    Usual::Row(sample, end + 1)
+    Usual::Row(sample, end.next)
 }
