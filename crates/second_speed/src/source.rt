@@ -3,17 +3,13 @@ ghost use Prim.Native.Nat.{_≤_};
 ghost use lib.ListN.{length};
 use explain::plain_words::say;
 use explain::plain_words::show_path;
+use files::start::Filled;
+use files::start::fill;
 
 // A descriptor, or nothing where a message said why.
 enum Opened {
     At(i32),
     Nothing,
-}
-
-// How much of a buffer was filled from a file, and whether that failed; a message then said why.
-pub(crate) struct Filled {
-    pub(crate) size: usize,
-    pub(crate) failed: bool,
 }
 
 // The system's reason comes last, since it is that of the call which has just failed.
@@ -31,28 +27,6 @@ fn open_file(path: &[u8]) -> Opened {
         return Opened::Nothing;
     }
     Opened::At(fd)
-}
-
-// Fills the buffer up to the end of the file; io::read_full would not tell a read that failed from the end.
-fn fill(fd: i32, buf: &mut [u8]) -> Filled
-    ensures { λ r. ⌜ r .size ≤ length (now (buf .exit)) ⌝ }
-{
-    let mut size = 0;
-    while size < buf.len() {
-        let got = libc::read(fd, &mut buf[size..]);
-        let count = io::count(got, &buf[size..]);
-        if count == 0 {
-            return Filled {
-                size,
-                failed: got < 0,
-            };
-        }
-        size += count;
-    }
-    Filled {
-        size,
-        failed: false,
-    }
 }
 
 // The start of the file that an argument names.

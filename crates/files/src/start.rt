@@ -3,13 +3,13 @@ ghost use Prim.Native.Nat.{_≤_};
 ghost use lib.ListN.{length};
 
 // How much of a buffer was filled from a file, and whether the last read failed.
-pub(crate) struct Filled {
-    pub(crate) size: usize,
-    pub(crate) failed: bool,
+pub struct Filled {
+    pub size: usize,
+    pub failed: bool,
 }
 
 // Fills the buffer up to the end of the file; io::read_full would not tell a read that failed from the end.
-pub(crate) fn fill(fd: i32, buf: &mut [u8]) -> Filled
+pub fn fill(fd: i32, buf: &mut [u8]) -> Filled
     ensures { λ r. ⌜ r .size ≤ length (now (buf .exit)) ⌝ }
 {
     let mut size = 0;

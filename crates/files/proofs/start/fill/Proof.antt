@@ -1,11 +1,11 @@
--- `second_speed::source::fill` is safe and ends. What is filled lies within the buffer, which keeps its length; what is left of it falls.
+-- `files::start::fill` is safe and ends. What is filled lies within the buffer, which keeps its length; what is left of it falls.
 -- Assumes nothing.
 use Prim.Native.Nat.{_-_, _≤_}
 use mathlib.Core.Path.{_≡_}
 use lib.ListN.{length}
 use borrow.Author.Needs.{needs}
-use Rattle.second_speed.proofs.source.fill.Statement.{statement}
-use Rattle.second_speed.proofs.source.fill.Tie as tie
+use Rattle.files.proofs.start.fill.Statement.{statement}
+use Rattle.files.proofs.start.fill.Tie as tie
 
 abbrev Inv-loop : tie.InvT-loop
 Inv-loop fd buf₀ size₀ buf size = (size ≤ length buf) × (length buf ≡ length buf₀)
