@@ -152,14 +152,15 @@ def irregular_sheet(seconds):
 
 
 def long_cases(good):
-    """Runs of 100,000 seconds: three stations with three sheets, and two generated stations; and whether SMALL runs them too."""
-    stations = [('Station A', read(STATION_A)), ('4 sets', four_sets()), ('8 sets', largest_station())]
+    """Runs of 100,000 seconds: three stations with three sheets, one of them with lines that end in CR and LF, and two generated
+    stations; and whether SMALL runs them too."""
+    stations = [('Station A', read(STATION_A), '\n'), ('4 sets, CR LF', four_sets(), '\r\n'), ('8 sets', largest_station(), '\n')]
     sheets = [('a row a second', sheet(MOST_SECONDS)), ('a row an hour', days_sheet(MOST_SECONDS, 3600)),
               ('irregular rows', irregular_sheet(MOST_SECONDS))]
     seconds = b'%d' % MOST_SECONDS
-    for at, (name, station) in enumerate(stations):
+    for at, (name, station, ending) in enumerate(stations):
         for place, (kind, text) in enumerate(sheets):
-            yield Case('long: %s, %s' % (name, kind), station, text.encode(), seconds), at == place
+            yield Case('long: %s, %s' % (name, kind), station, text.replace('\n', ending).encode(), seconds), at == place
     for case in good[:2]:
         yield Case('long: ' + case.name, case.station, case.samples, seconds), False
 
