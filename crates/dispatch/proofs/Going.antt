@@ -6,7 +6,7 @@ use mathlib.Core.List.{List, [], _∷_, _++_, append-nil, append-assoc}
 use native.Mathlib.Omega.{arith}
 use native.Mathlib.Nat.{not-suc-le-zero}
 use native.Mathlib.Numerals.{add-one}
-use lib.ListN.{length, take, drop, getD, length-append, length-take, length-drop, drop-of-length-le}
+use lib.ListN.{length, take, drop, length-append, length-take, length-drop, drop-of-length-le}
 use lib.Seq.{take-all, take-at, drop-at, drop-drop}
 use Rattle.rules.specs.declared.answers.Outcome.the-variants.{Row, Refused}
 use Rattle.rules.specs.declared.answers.Refusal.{Refusal}
@@ -23,7 +23,7 @@ use Rattle.rules.specs.Second.{second, lengthAnswered, recordHanded, bufferLeft
 use Rattle.rules.proofs.Shapes.{Tables}
 use Rattle.laws.proofs.Kept.{second-kept}
 use Rattle.dispatch.specs.declared.seconds.Worked.{Worked}
-use Rattle.dispatch.specs.Seconds.{inputsOf, Calls, onward, callsFrom, callsOf, SecondsWorked}
+use Rattle.dispatch.specs.Seconds.{inputsOf, inputsAt, Calls, onward, callsFrom, callsOf, SecondsWorked}
 use Rattle.dispatch.specs.Going.{sofar, Going}
 
 -- ---- the tail of a buffer that was lent, and the buffer when it has come back
@@ -47,10 +47,6 @@ inputs-length [] solars sheddables = omega arith
 inputs-length (l ∷ loads) [] sheddables = omega arith
 inputs-length (l ∷ loads) (s ∷ solars) [] = omega arith
 inputs-length (l ∷ loads) (s ∷ solars) (h ∷ sheddables) = omega (arith, inputs-length loads solars sheddables)
-
--- the inputs of the second at a place
-abbrev pub inputsAt : List ℕ → List ℕ → List ℕ → ℕ → Inputs
-inputsAt loads solars sheddables i = record { load = getD loads i 0; solar = getD solars i 0; sheddable = getD sheddables i 0 }
 
 inputs-from : (loads solars sheddables : List ℕ) (i : ℕ) → i < length (inputsOf loads solars sheddables)
     → drop i (inputsOf loads solars sheddables) ≡ (inputsAt loads solars sheddables i ∷ drop (suc i) (inputsOf loads solars sheddables))

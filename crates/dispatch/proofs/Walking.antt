@@ -23,13 +23,13 @@ use Rattle.laws.proofs.Kept.{second-kept}
 use Rattle.dispatch.specs.declared.parts.Moment.{Moment}
 use Rattle.dispatch.specs.declared.quiet_step.Quiet.{Quiet}
 use Rattle.dispatch.specs.declared.quiet_second.QuietJudged.{QuietJudged}
-use Rattle.dispatch.specs.Going.{Going, GoesOn}
+use Rattle.dispatch.specs.Going.{GoesOn}
 use Rattle.dispatch.specs.Parts.{runOf}
 use Rattle.dispatch.specs.Lasting.{unmovedAll}
 use Rattle.dispatch.specs.Quiet.{sinceQuiet}
 use Rattle.dispatch.specs.QuietSecond.{quietAfter, leftBy, quietHanded}
-use Rattle.dispatch.specs.Seconds.{inputsOf}
-use Rattle.dispatch.proofs.Going.{back-is, inputsAt, Written, row-means, refusal-means, goes}
+use Rattle.dispatch.specs.Seconds.{inputsOf, inputsAt}
+use Rattle.dispatch.proofs.Going.{back-is, Written, row-means, refusal-means, goes}
 use Rattle.dispatch.proofs.QuietLaws.{quiet-commanded}
 
 -- ---- the record that a quiet second hands back

@@ -3,7 +3,7 @@
 use Prim.Native.Nat.{ℕ, suc, _-_}
 use mathlib.Core.Path.{_≡_}
 use mathlib.Core.List.{List, [], _∷_, _++_}
-use lib.ListN.{length, drop}
+use lib.ListN.{length, drop, getD}
 use Rattle.rules.specs.declared.station.Station.{Station}
 use Rattle.rules.specs.declared.run.Inputs.{Inputs}
 use Rattle.rules.specs.declared.run.Run.{Run}
@@ -20,6 +20,10 @@ inputsOf (l ∷ loads) [] sheddables = []
 inputsOf (l ∷ loads) (s ∷ solars) [] = []
 inputsOf (l ∷ loads) (s ∷ solars) (h ∷ sheddables) =
     record { load = l; solar = s; sheddable = h } ∷ inputsOf loads solars sheddables
+
+-- the inputs of the second at a place
+abbrev pub inputsAt : List ℕ → List ℕ → List ℕ → ℕ → Inputs
+inputsAt loads solars sheddables i = record { load = getD loads i 0; solar = getD solars i 0; sheddable = getD sheddables i 0 }
 
 -- what the calls come to: the record last handed back, how many were accepted, their rows' bytes, and what ended them
 pub record Calls : Type 0 where

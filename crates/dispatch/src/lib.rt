@@ -3,6 +3,7 @@ mod commands;
 mod commit;
 mod counts;
 mod curve_table;
+mod inputs;
 mod lasting;
 mod parts;
 mod quiet;

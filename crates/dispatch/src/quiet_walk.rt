@@ -1,4 +1,5 @@
 // Quiet seconds one after the other, up to the first that is refused or calls other sets.
+ghost use mathlib.Core.Path.{_≡_};
 ghost use Rattle.rules.specs.Configuration.{maskCalled};
 ghost use Rattle.rules.specs.Commands.{commandedAll};
 ghost use Rattle.commitment.specs.Choice.{Rated};
@@ -7,12 +8,12 @@ ghost use Rattle.dispatch.specs.Going.{GoesOn};
 ghost use Rattle.dispatch.specs.Parts.{runOf};
 ghost use Rattle.dispatch.specs.Quiet.{sinceQuiet};
 ghost use Rattle.dispatch.specs.QuietSecond.{Walkable};
+use crate::inputs::inputs_at;
 use crate::parts::Moment;
 use crate::quiet_second::quiet_second;
 use crate::quiet_step::Quiet;
 use commitment::configuration::mask_called;
 use rules::answers::Outcome;
-use rules::run::Inputs;
 use rules::run::SetState;
 use rules::station::Station;
 
@@ -22,6 +23,17 @@ pub(crate) struct Walked {
     pub(crate) at: usize,
     pub(crate) next: usize,
     pub(crate) ran: u32,
+}
+
+fn walked_to(moment: Moment, at: usize, next: usize, ran: u32) -> Walked
+    ensures { λ r. ⌜ r ≡ record { moment = moment; at = at; next = next; ran = ran } ⌝ }
+{
+    Walked {
+        moment,
+        at,
+        next,
+        ran,
+    }
 }
 
 pub(crate) fn quiet_walk(
@@ -52,11 +64,7 @@ pub(crate) fn quiet_walk(
     let mut next = from;
     let mut ran: u32 = 0;
     while next < last {
-        let inputs = Inputs {
-            load: loads[next],
-            solar: solars[next],
-            sheddable: sheddables[next],
-        };
+        let inputs = inputs_at(loads, solars, sheddables, next);
         let handed = quiet_second(
             st,
             caps,
@@ -73,35 +81,16 @@ pub(crate) fn quiet_walk(
             lines,
         );
         let answer = handed.answer;
-        match answer {
-            Outcome::Row(size) => {
-                moment = handed.moment;
-                at += size;
-                next += 1;
-                ran += 1;
-                if mask_called(configs, moment.called) != quiet.called {
-                    return Walked {
-                        moment,
-                        at,
-                        next,
-                        ran,
-                    };
-                }
-            }
-            Outcome::Refused(_) => {
-                return Walked {
-                    moment,
-                    at,
-                    next,
-                    ran,
-                };
-            }
+        let Outcome::Row(size) = answer else {
+            return walked_to(moment, at, next, ran);
+        };
+        moment = handed.moment;
+        at += size;
+        next += 1;
+        ran += 1;
+        if mask_called(configs, moment.called) != quiet.called {
+            return walked_to(moment, at, next, ran);
         }
     }
-    Walked {
-        moment,
-        at,
-        next,
-        ran,
-    }
+    walked_to(moment, at, next, ran)
 }

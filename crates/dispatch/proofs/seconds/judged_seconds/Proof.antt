@@ -14,10 +14,10 @@ use Rattle.rules.specs.StationRecord.{someFileGives}
 use Rattle.rules.specs.RunRecord.{possible}
 use Rattle.rules.specs.Second.{Second}
 use Rattle.rules.proofs.Shapes.{Tables}
-use Rattle.dispatch.specs.Seconds.{inputsOf}
+use Rattle.dispatch.specs.Seconds.{inputsOf, inputsAt}
 use Rattle.dispatch.specs.Going.{Going}
 use Rattle.dispatch.proofs.Ready.{rated}
-use Rattle.dispatch.proofs.Going.{rest-is, back-is, inputs-length, inputsAt, going-start, over, stops, hands-back, goes, stays, owed}
+use Rattle.dispatch.proofs.Going.{rest-is, back-is, inputs-length, going-start, over, stops, hands-back, goes, stays, owed}
 use Rattle.dispatch.proofs.Walking.{back-length}
 use Rattle.dispatch.proofs.seconds.judged_seconds.Statement.{statement}
 use Rattle.dispatch.proofs.seconds.judged_seconds.Tie as tie

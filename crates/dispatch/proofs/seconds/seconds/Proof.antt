@@ -13,9 +13,9 @@ use Rattle.rules.specs.declared.station.Station.{Station}
 use Rattle.rules.specs.declared.run.Run.{Run}
 use Rattle.rules.specs.Answers.{accepted, verdictOf}
 use Rattle.dispatch.specs.declared.seconds.Worked.{Worked}
-use Rattle.dispatch.specs.Seconds.{inputsOf, callsOf, SecondsWorked}
+use Rattle.dispatch.specs.Seconds.{inputsOf, inputsAt, callsOf, SecondsWorked}
 use Rattle.rules.proofs.Edges.{second-25, second-24}
-use Rattle.dispatch.proofs.Going.{inputs-length, inputsAt, going-start, over, first-refused, endedBy, owed}
+use Rattle.dispatch.proofs.Going.{inputs-length, going-start, over, first-refused, endedBy, owed}
 use borrow.Author.Needs.{needs}
 use Rattle.dispatch.proofs.seconds.seconds.Statement.{statement}
 use Rattle.dispatch.proofs.seconds.seconds.Tie as tie
