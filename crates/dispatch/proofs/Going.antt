@@ -1,14 +1,13 @@
 -- The calls of many seconds one after the other, as a loop makes them. Assumes nothing.
 use Prim.Native.Nat.{ℕ, zero, suc, _+_, _-_, _≤_, _<_, min}
 use mathlib.Core.Path.{_≡_, refl, sym, ap, subst, _∙_}
-use mathlib.Core.Bool.{true}
 use mathlib.Core.List.{List, [], _∷_, _++_, append-nil, append-assoc}
 use native.Mathlib.Omega.{arith}
 use native.Mathlib.Nat.{not-suc-le-zero}
 use native.Mathlib.Numerals.{add-one}
-use lib.ListN.{length, take, drop, length-append, length-take, length-drop, drop-of-length-le}
+use lib.ListN.{length, take, drop, length-append, length-take, length-drop, drop-of-length-le, take-append-drop}
 use lib.Seq.{take-all, take-at, drop-at, drop-drop}
-use Rattle.rules.specs.declared.answers.Outcome.the-variants.{Row, Refused}
+use Rattle.rules.specs.declared.answers.Outcome.the-variants.{Row}
 use Rattle.rules.specs.declared.answers.Refusal.{Refusal}
 use Rattle.rules.specs.declared.answers.Verdict.{Verdict}
 use Rattle.rules.specs.declared.station.Station.{Station}
@@ -17,11 +16,8 @@ use Rattle.rules.specs.declared.run.Inputs.{Inputs}
 use Rattle.rules.specs.declared.run.Run.{Run}
 use Rattle.rules.specs.declared.run.Step.{Step}
 use Rattle.rules.specs.Answers.{Answer, accepted, refused, refusalOf, verdictOf}
-use Rattle.rules.specs.RunRecord.{possible}
 use Rattle.rules.specs.Row.{rowText}
 use Rattle.rules.specs.Second.{second, lengthAnswered, recordHanded, bufferLeft, Second}
-use Rattle.rules.proofs.Shapes.{Tables}
-use Rattle.laws.proofs.Kept.{second-kept}
 use Rattle.dispatch.specs.declared.seconds.Worked.{Worked}
 use Rattle.dispatch.specs.Seconds.{inputsOf, inputsAt, Calls, onward, callsFrom, callsOf, SecondsWorked}
 use Rattle.dispatch.specs.Going.{sofar, Going}
@@ -103,7 +99,16 @@ module _ (st : Station) (loads solars sheddables rows₀ : List ℕ) (r₀ : Run
     unfolding callsFrom
     over h = g .same ∙ rw (drop-of-length-le xs h)
 
-    module _ (l : i < length xs) (h : Handed) (ys : List ℕ) (o : Second st r (xAt i) (drop at rows) h ys) where
+    -- the loop's end, as the call owes it
+    pub owed : (verdict : Verdict) → calls ≡ endedBy r i (take at rows) (verdictOf verdict) → (first : Run) → r₀ ≡ first
+        → (w : Worked) → w ≡ record { run = r; seconds = i; bytes = at; verdict = verdict } → SecondsWorked st first loads solars sheddables rows₀ w rows
+    owed verdict c first p w q =
+        let f = length-front rows at (g .within) in
+        let b : rows ≡ take at rows ++ drop at rows₀ = sym (take-append-drop at rows) ∙ ap (λ (x : List ℕ). take at rows ++ x) (g .rest) in
+        subst (λ (z : Run). SecondsWorked st z loads solars sheddables rows₀ w rows) p
+        (rw q (record { hands = rw c; counts = rw c; measures = rw (c, f); ends = rw c; leaves = rw (c, f) b }))
+
+    module _ (l : i < length xs) where
       abbrev later : Step → Calls
       later s = callsFrom st (length rows₀) (sofar (s .run) (suc i) (take at rows ++ rowText (s .row))) (drop (suc i) xs)
 
@@ -112,23 +117,15 @@ module _ (st : Station) (loads solars sheddables rows₀ : List ℕ) (r₀ : Run
       by-answer = g .same ∙ rw (inputs-from loads solars sheddables i l, room-is)
 
       -- a refused second ends it
-      pub stops : (why : Refusal) → h .answer ≡ Refused why → (calls ≡ endedBy r i (take at rows) (refusalOf why)) × (ys ≡ drop at rows₀)
-      stops why a =
-          let t = refusal-means (second st r (xAt i) (length (drop at rows))) why (drop at rows) ys (rw a at (o .answers)) (o .leaves) in
-          (by-answer ∙ rw (t .0), t .1 ∙ g .rest)
+      pub stops : (why : Refusal) → second st r (xAt i) (length (drop at rows)) ≡ refusalOf why → calls ≡ endedBy r i (take at rows) (refusalOf why)
+      stops why e = by-answer ∙ rw e
 
-      -- and hands the record back
-      pub hands-back : (why : Refusal) → h .answer ≡ Refused why → h .run ≡ r
-      hands-back why a =
-          let t = refusal-means (second st r (xAt i) (length (drop at rows))) why (drop at rows) ys (rw a at (o .answers)) (o .leaves) in
-          o .hands ∙ ap (recordHanded r) (t .0)
-
-      module _ (k : ℕ) (a : h .answer ≡ Row k) where
+      -- an accepted one goes on
+      module _ (h : Handed) (ys : List ℕ) (o : Second st r (xAt i) (drop at rows) h ys) (k : ℕ) (a : h .answer ≡ Row k) where
         told : Written (second st r (xAt i) (length (drop at rows))) k (h .run) (drop at rows) ys
         told = row-means (second st r (xAt i) (length (drop at rows))) r k (h .run) (drop at rows) ys (rw a at (o .answers)) (o .hands) (o .leaves)
 
-        -- an accepted one goes on
-        pub goes : length ys ≡ length (drop at rows) → (at + k ≤ length rows) × Going st loads solars sheddables rows₀ r₀ (take at rows ++ ys) (h .run) (at + k) (i + 1)
+        pub goes : length ys ≡ length (drop at rows) → Going st loads solars sheddables rows₀ r₀ (take at rows ++ ys) (h .run) (at + k) (i + 1)
         goes kept =
             let t = told in
             let text : List ℕ = rowText (t .worked .row) in
@@ -140,36 +137,18 @@ module _ (st : Station) (loads solars sheddables rows₀ : List ℕ) (r₀ : Run
             let w : take at rows ++ ys ≡ (take at rows ++ text) ++ drop (length text) (drop at rows) = ap (λ (v : List ℕ). take at rows ++ v) (t .left-is) ∙ sym (append-assoc (take at rows) text (drop (length text) (drop at rows))) in
             let z : length (take at rows ++ text) ≡ at + k = length-append (take at rows) text ∙ (let x : length (take at rows) + length text ≡ at + k = omega (arith, t .size-is) in x) in
             let tk : take (at + k) (take at rows ++ ys) ≡ take at rows ++ text = rw w (take-at (take at rows ++ text) (drop (length text) (drop at rows)) (at + k) z) in
-            let dr : drop (at + k) (take at rows ++ ys) ≡ drop (length text) (drop at rows) = rw w (drop-at (take at rows ++ text) (drop (length text) (drop at rows)) (at + k) z) in (
-              b,
-              record {
-                range = omega arith;
-                within = omega (arith, p);
-                size = p ∙ (let x : length (take at rows) + length ys ≡ length rows₀ = omega (arith, g .size, g .within) in x);
-                rest = dr ∙ ap (drop (length text)) (g .rest) ∙ drop-drop (length text) at rows₀ ∙ ap (λ (j : ℕ). drop (at + j) rows₀) (sym (t .size-is));
-                same = by-answer ∙ ap (λ (x : Answer Step). onward x later (sofar r i (take at rows))) (t .accepts)
-                    ∙ ap (λ (x : Run). callsFrom st (length rows₀) (sofar x (suc i) (take at rows ++ text)) (drop (suc i) xs)) (sym (t .after-is))
-                    ∙ ap (λ (x : List ℕ). callsFrom st (length rows₀) (sofar (h .run) (suc i) x) (drop (suc i) xs)) (sym tk)
-                    ∙ ap (λ (j : ℕ). callsFrom st (length rows₀) (sofar (h .run) j (take (at + k) (take at rows ++ ys))) (drop j xs)) (sym (add-one i));
-              },
-            )
-
-        -- and leaves a possible record
-        pub stays : Tables st → possible st (h .run) ≡ true
-        stays tables = rw (told .after-is) (second-kept st tables r (xAt i) (length (drop at rows)) (told .worked) (told .accepts))
+            let dr : drop (at + k) (take at rows ++ ys) ≡ drop (length text) (drop at rows) = rw w (drop-at (take at rows ++ text) (drop (length text) (drop at rows)) (at + k) z) in
+            record {
+              range = omega arith;
+              within = omega (arith, p);
+              size = p ∙ (let x : length (take at rows) + length ys ≡ length rows₀ = omega (arith, g .size, g .within) in x);
+              rest = dr ∙ ap (drop (length text)) (g .rest) ∙ drop-drop (length text) at rows₀ ∙ ap (λ (j : ℕ). drop (at + j) rows₀) (sym (t .size-is));
+              same = by-answer ∙ ap (λ (x : Answer Step). onward x later (sofar r i (take at rows))) (t .accepts)
+                  ∙ ap (λ (x : Run). callsFrom st (length rows₀) (sofar x (suc i) (take at rows ++ text)) (drop (suc i) xs)) (sym (t .after-is))
+                  ∙ ap (λ (x : List ℕ). callsFrom st (length rows₀) (sofar (h .run) (suc i) x) (drop (suc i) xs)) (sym tk)
+                  ∙ ap (λ (j : ℕ). callsFrom st (length rows₀) (sofar (h .run) j (take (at + k) (take at rows ++ ys))) (drop j xs)) (sym (add-one i));
+            }
 
   -- the first second is refused
   pub first-refused : (why : Refusal) → 0 < length xs → second st r₀ (xAt 0) (length rows₀) ≡ refusalOf why → calls ≡ endedBy r₀ 0 [] (refusalOf why)
-  unfolding callsOf callsFrom
-  first-refused why p e =
-      let z : length rows₀ - 0 ≡ length rows₀ = omega arith in
-      rw (inputs-from loads solars sheddables 0 p, z, e)
-
-  -- the loop's end, as the call owes it
-  pub owed : (rows left : List ℕ) (r : Run) (at i : ℕ) (verdict : Verdict) → at ≤ length rows → calls ≡ endedBy r i (take at rows) (verdictOf verdict)
-      → left ≡ take at rows ++ drop at rows₀ → (first : Run) → r₀ ≡ first → (last : Run) → last ≡ r
-      → SecondsWorked st first loads solars sheddables rows₀ (record { run = last; seconds = i; bytes = at; verdict = verdict }) left
-  owed rows left r at i verdict h c b first p last q =
-      let f = length-front rows at h in
-      subst (λ (z : Run). SecondsWorked st z loads solars sheddables rows₀ (record { run = last; seconds = i; bytes = at; verdict = verdict }) left) p
-      (record { hands = q ∙ rw c; counts = rw c; measures = rw (c, f); ends = rw c; leaves = rw (c, f) b })
+  first-refused why p e = stops rows₀ r₀ 0 0 going-start p why e

@@ -1,4 +1,4 @@
--- A quiet second on the way: by its row the loop goes on, by its refusal all is as it was. Assumes nothing.
+-- A second on the way: by its row the loop goes on, by its refusal all is as it was. Assumes nothing.
 use Prim.Native.Nat.{ℕ, _+_, _-_, _≤_, _<_}
 use mathlib.Core.Path.{_≡_, refl, sym, ap, _∙_}
 use mathlib.Core.Bool.{true}
@@ -87,7 +87,7 @@ module _ (st : Station) (tables : Tables st) (loads solars sheddables rows₁ : 
     pub on-row : (rows' : List ℕ) → rows' ≡ take at rows ++ ys → (r' : Run) → h .run ≡ r' → GoesOn st loads solars sheddables rows₁ r₁ at₁ i₁ rows' r' (at + k) (i + 1)
     on-row rows' p r' q =
         rw (p, ← q) (record {
-          going = λ rows₀ r₀ g. goes st loads solars sheddables rows₀ r₀ rows r at i (so .going rows₀ r₀ g) l h ys o k a kept .1;
+          going = λ rows₀ r₀ g. goes st loads solars sheddables rows₀ r₀ rows r at i (so .going rows₀ r₀ g) l h ys o k a kept;
           stays-possible = rw (told .after-is) (second-kept st tables r (inputsAt loads solars sheddables i) (length (drop at rows)) (told .worked) (told .accepts));
           further = omega (arith, so .further);
         })
@@ -99,7 +99,13 @@ module _ (st : Station) (tables : Tables st) (loads solars sheddables rows₁ : 
     pub handed-back : h .run ≡ r
     handed-back = o .hands ∙ ap (recordHanded r) (meant .0)
 
-    pub on-refusal : (rows' : List ℕ) → rows' ≡ take at rows ++ ys → (r' : Run) → r' ≡ r → GoesOn st loads solars sheddables rows₁ r₁ at₁ i₁ rows' r' at i
-    on-refusal rows' p r' q =
-        let e : rows' ≡ rows = p ∙ ap (λ (z : List ℕ). take at rows ++ z) (meant .1) ∙ take-append-drop at rows in
-        rw (e, q) so
+    module _ (rows' : List ℕ) (p : rows' ≡ take at rows ++ ys) (r' : Run) (q : r' ≡ r) where
+      as-they-were : rows' ≡ rows
+      as-they-were = p ∙ ap (λ (z : List ℕ). take at rows ++ z) (meant .1) ∙ take-append-drop at rows
+
+      pub on-refusal : GoesOn st loads solars sheddables rows₁ r₁ at₁ i₁ rows' r' at i
+      on-refusal = rw (as-they-were, q) so
+
+      -- and would be refused again
+      pub refused-there : second st r' (inputsAt loads solars sheddables i) (length (drop at rows')) ≡ refusalOf why
+      refused-there = rw (as-they-were, q) (meant .0)

@@ -14,5 +14,6 @@ mod quiet_walk;
 pub mod second;
 pub mod seconds;
 mod step;
+mod stretch;
 mod supply;
 mod totals;

@@ -2,6 +2,7 @@
 ghost use mathlib.Core.Path.{_≡_};
 ghost use mathlib.Core.Bool.{true};
 ghost use Prim.Native.Nat.{_+_, _≤_};
+ghost use Rattle.rules.specs.declared.answers.Verdict.the-variants.{Accepted};
 ghost use Rattle.rules.specs.StationRecord.{someFileGives};
 ghost use Rattle.commitment.specs.Choice.{Rated};
 ghost use Rattle.dispatch.specs.Going.{GoesOn};
@@ -20,15 +21,18 @@ use flows::floor::floor_load;
 use gensets::share::capacity;
 use modes::masks::barred_mask;
 use modes::masks::on_mask;
+use rules::answers::Verdict;
 use rules::run::SetState;
 use rules::station::Station;
 
-// The record after the quiet seconds but for the decided amounts, where the rows end, and the place of the next second.
+// The record after a stretch of seconds but for the decided amounts, where the rows end, the place of the next second, and the verdict
+// on the first of the stretch: quiet ones follow it only where it was accepted.
 pub(crate) struct Went {
     pub(crate) moment: Moment,
     pub(crate) states: [SetState; 8],
     pub(crate) at: usize,
     pub(crate) next: usize,
+    pub(crate) verdict: Verdict,
 }
 
 // The place after the last of so many seconds, where so many are asked.
@@ -78,7 +82,7 @@ fn quiet_seconds(
     rows: &mut [u8],
 ) -> Went
     requires { ⌜ Following st states moment (now loads) (now solars) (now sheddables) asked from at (now decided) (now rows) × Rated (st .sets) (st .configs) (now caps) × Quietly st states on called moment ⌝ }
-    ensures { λ r. ⌜ GoesOn st (now (loads .entry)) (now (solars .entry)) (now (sheddables .entry)) (now (rows .entry)) (runOf moment states (now (decided .entry))) at from (now (rows .exit)) (runOf (r .moment) (r .states) (now (decided .exit))) (r .at) (r .next) ⌝ }
+    ensures { λ r. ⌜ GoesOn st (now (loads .entry)) (now (solars .entry)) (now (sheddables .entry)) (now (rows .entry)) (runOf moment states (now (decided .entry))) at from (now (rows .exit)) (runOf (r .moment) (r .states) (now (decided .exit))) (r .at) (r .next) × (r .verdict ≡ Accepted) ⌝ }
 {
     let sets = st.sets;
     let configs = st.configs;
@@ -115,6 +119,7 @@ fn quiet_seconds(
         states: command_all(sets, ran, mask_called(configs, after.called)),
         at: walked.at,
         next: walked.next,
+        verdict: Verdict::Accepted,
     }
 }
 
@@ -134,13 +139,14 @@ pub(crate) fn following(
     rows: &mut [u8],
 ) -> Went
     requires { ⌜ Following st states moment (now loads) (now solars) (now sheddables) asked from at (now decided) (now rows) × Rated (st .sets) (st .configs) (now caps) ⌝ }
-    ensures { λ r. ⌜ GoesOn st (now (loads .entry)) (now (solars .entry)) (now (sheddables .entry)) (now (rows .entry)) (runOf moment states (now (decided .entry))) at from (now (rows .exit)) (runOf (r .moment) (r .states) (now (decided .exit))) (r .at) (r .next) ⌝ }
+    ensures { λ r. ⌜ GoesOn st (now (loads .entry)) (now (solars .entry)) (now (sheddables .entry)) (now (rows .entry)) (runOf moment states (now (decided .entry))) at from (now (rows .exit)) (runOf (r .moment) (r .states) (now (decided .exit))) (r .at) (r .next) × (r .verdict ≡ Accepted) ⌝ }
 {
     let none = Went {
         moment,
         states,
         at,
         next: from,
+        verdict: Verdict::Accepted,
     };
     // the last second asked has none after it, and a stretch would be made ready in vain
     if asked <= from {

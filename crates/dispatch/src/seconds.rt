@@ -5,18 +5,18 @@ ghost use Prim.Native.Nat.{min};
 ghost use lib.ListN.{length};
 ghost use Rattle.rules.specs.StationRecord.{someFileGives};
 ghost use Rattle.rules.specs.RunRecord.{possible};
+ghost use Rattle.dispatch.specs.Parts.{runOf};
 ghost use Rattle.dispatch.specs.Seconds.{SecondsWorked};
+use crate::parts::Moment;
 use crate::parts::moment_of;
 use crate::parts::whole;
-use crate::quiet_seconds::following;
-use crate::second::judged_second;
+use crate::stretch::stretch_from;
 use commitment::configuration::capacities;
 use records::possible::possible;
-use rules::answers::Outcome;
 use rules::answers::Refusal;
 use rules::answers::Verdict;
-use rules::run::Inputs;
 use rules::run::Run;
+use rules::run::SetState;
 use rules::station::Station;
 use station::record::some_file_gives;
 
@@ -41,6 +41,25 @@ fn places(loads: &[u32], solars: &[u32], sheddables: &[u32]) -> usize
     lesser(loads.len(), lesser(solars.len(), sheddables.len()))
 }
 
+// The record in parts, as it is handed over.
+fn worked_to(
+    moment: Moment,
+    states: [SetState; 8],
+    decided: [u32; 60],
+    seconds: usize,
+    bytes: usize,
+    verdict: Verdict,
+) -> Worked
+    ensures { λ r. ⌜ r ≡ record { run = runOf moment states decided; seconds = seconds; bytes = bytes; verdict = verdict } ⌝ }
+{
+    Worked {
+        run: whole(moment, states, decided),
+        seconds,
+        bytes,
+        verdict,
+    }
+}
+
 // The seconds of a station and a record that were judged: neither is asked again, since a second leaves a possible record.
 pub(crate) fn judged_seconds(
     st: Station,
@@ -63,60 +82,30 @@ pub(crate) fn judged_seconds(
     let mut at: usize = 0;
     let mut i: usize = 0;
     while i < asked {
-        let inputs = Inputs {
-            load: loads[i],
-            solar: solars[i],
-            sheddable: sheddables[i],
-        };
-        let handed = judged_second(
+        let went = stretch_from(
             st,
             &caps,
             states,
             moment,
-            inputs,
+            loads,
+            solars,
+            sheddables,
+            asked,
+            i,
+            at,
             &mut decided,
-            &mut rows[at..],
+            rows,
         );
-        let answer = handed.answer;
-        match answer {
-            Outcome::Row(size) => {
-                let after = handed.moment;
-                let left = handed.states;
-                let went = following(
-                    st,
-                    &caps,
-                    left,
-                    after,
-                    loads,
-                    solars,
-                    sheddables,
-                    asked,
-                    i + 1,
-                    at + size,
-                    &mut decided,
-                    rows,
-                );
-                moment = went.moment;
-                states = went.states;
-                at = went.at;
-                i = went.next;
-            }
-            Outcome::Refused(refusal) => {
-                return Worked {
-                    run: whole(moment, states, decided),
-                    seconds: i,
-                    bytes: at,
-                    verdict: Verdict::Refused(refusal),
-                };
-            }
+        moment = went.moment;
+        states = went.states;
+        at = went.at;
+        i = went.next;
+        let verdict = went.verdict;
+        if let Verdict::Refused(refusal) = verdict {
+            return worked_to(moment, states, decided, i, at, Verdict::Refused(refusal));
         }
     }
-    Worked {
-        run: whole(moment, states, decided),
-        seconds: i,
-        bytes: at,
-        verdict: Verdict::Accepted,
-    }
+    worked_to(moment, states, decided, i, at, Verdict::Accepted)
 }
 
 // Nothing worked: the record as it was handed in.

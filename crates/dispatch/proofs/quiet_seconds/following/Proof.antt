@@ -1,6 +1,6 @@
 -- `dispatch::quiet_seconds::following` meets its contract. Assumes nothing.
 use borrow.Author.Needs.{needs}
-use mathlib.Core.Path.{sym, _∙_}
+use mathlib.Core.Path.{refl, sym, _∙_}
 use native.Mathlib.Omega.{arith}
 use borrow.Author.Tests.{not-false}
 use Rattle.dispatch.proofs.quiet_seconds.following.Statement.{statement}
@@ -8,7 +8,7 @@ use Rattle.dispatch.proofs.quiet_seconds.following.Tie as tie
 
 -- no second more is asked
 returns : tie.Need-returns
-returns c = record { going = λ rows₀ r₀ g. g; stays-possible = c .before .before .before .before .before .before .pre .0 .was-possible; further = omega arith }
+returns c = (record { going = λ rows₀ r₀ g. g; stays-possible = c .before .before .before .before .before .before .pre .0 .was-possible; further = omega arith }, refl)
 
 mask-called-requires : tie.Need-mask-called-requires
 mask-called-requires c κs = search needs
@@ -18,7 +18,7 @@ unmoved-all-requires c κs = search needs
 
 -- commands would change a set
 returns-2 : tie.Need-returns-2
-returns-2 c = record { going = λ rows₀ r₀ g. g; stays-possible = c .before .before .before .before .before .before .before .before .before .before .pre .0 .was-possible; further = omega arith }
+returns-2 c = (record { going = λ rows₀ r₀ g. g; stays-possible = c .before .before .before .before .before .before .before .before .before .before .pre .0 .was-possible; further = omega arith }, refl)
 
 on-mask-requires : tie.Need-on-mask-requires
 on-mask-requires c κs = search needs

@@ -1,7 +1,7 @@
 -- `dispatch::quiet_seconds::quiet_seconds` meets its contract. Assumes nothing.
 use borrow.Author.Needs.{needs}
 use Prim.Native.Nat.{_+_}
-use mathlib.Core.Path.{_≡_, sym, ap, _∙_}
+use mathlib.Core.Path.{_≡_, refl, sym, ap, _∙_}
 use native.Mathlib.Omega.{arith}
 use denote.Ref.{now}
 use lib.ListN.{length, length-map, getD-replicate}
@@ -116,7 +116,7 @@ returns c =
     let walked = c .before .before .before .before .before .before .before .before .before .before .before .before in
     let keeping = walked .before .before .before .before .before .before .before in
     let start = keeping .before .before .before .before .before .before .before .before .before .before .before .before .before .before .before in
-    as-went _ _ _ _ _ _ _ _ _ _ _ _ _ _ _ _ _ _ (none-ran (start .args .states) (keeping .kept .result .on) _ _ (eight start) (λ i l. getD-replicate 8 i 0 0 l) (λ i l. getD-replicate 8 i 0 0 l)) (c .command-all .ensures ∙ rw (c .before .before .made .ensures, c .before .mask-called .ensures .0)) (walked .quiet-walk .ensures)
+    (as-went _ _ _ _ _ _ _ _ _ _ _ _ _ _ _ _ _ _ (none-ran (start .args .states) (keeping .kept .result .on) _ _ (eight start) (λ i l. getD-replicate 8 i 0 0 l) (λ i l. getD-replicate 8 i 0 0 l)) (c .command-all .ensures ∙ rw (c .before .before .made .ensures, c .before .mask-called .ensures .0)) (walked .quiet-walk .ensures), refl)
 
 pub quiet-seconds-spec : {M : Type 1} → statement M
 quiet-seconds-spec =

@@ -1,5 +1,5 @@
 -- `dispatch::seconds::seconds` meets its contract. Assumes nothing.
-use Prim.Native.Nat.{ℕ, zero, suc, _≤_, _<_}
+use Prim.Native.Nat.{ℕ, zero, suc, _<_}
 use mathlib.Core.Path.{_≡_, refl, sym, _∙_}
 use mathlib.Core.List.{List, []}
 use native.Mathlib.Omega.{arith}
@@ -8,10 +8,9 @@ use denote.Ref.{now}
 use lib.ListN.{length}
 use Rattle.rules.specs.declared.answers.Refusal.the-variants.{RunRecord, StationRecord}
 use Rattle.rules.specs.declared.answers.Verdict.{Verdict}
-use Rattle.rules.specs.declared.answers.Verdict.the-variants.{Accepted}
 use Rattle.rules.specs.declared.station.Station.{Station}
 use Rattle.rules.specs.declared.run.Run.{Run}
-use Rattle.rules.specs.Answers.{accepted, verdictOf}
+use Rattle.rules.specs.Answers.{verdictOf}
 use Rattle.dispatch.specs.declared.seconds.Worked.{Worked}
 use Rattle.dispatch.specs.Seconds.{inputsOf, inputsAt, callsOf, SecondsWorked}
 use Rattle.rules.proofs.Edges.{second-25, second-24}
@@ -28,7 +27,7 @@ some (suc n) m e h = omega arith
 -- nothing worked, where the calls come to nothing
 none-owed : (st : Station) (loads solars sheddables lent : List ℕ) (r : Run) (w : Worked) (verdict : Verdict) → w ≡ record { run = r; seconds = 0; bytes = 0; verdict = verdict }
     → callsOf st r (inputsOf loads solars sheddables) (length lent) ≡ endedBy r 0 [] (verdictOf verdict) → SecondsWorked st r loads solars sheddables lent w lent
-none-owed st loads solars sheddables lent r w verdict e c = rw e (owed st loads solars sheddables lent r lent lent r 0 0 verdict (omega arith) c refl r refl r refl)
+none-owed st loads solars sheddables lent r w verdict e c = owed st loads solars sheddables lent r lent r 0 0 (going-start st loads solars sheddables lent r) verdict c r refl w e
 
 places-requires : tie.Need-places-requires
 places-requires c κs = search needs
