@@ -16,8 +16,8 @@ use Rattle.rules.specs.declared.run.SetState.{SetState}
 use Rattle.rules.specs.Numbers.{has, allTo, maskOf}
 use Rattle.rules.specs.Configuration.{usable}
 use Rattle.rules.proofs.Tables.{has-beyond}
+use Rattle.rules.proofs.Masks.{mask-below, mask-has}
 use Rattle.modes.specs.Barred.{barred, barredMask}
-use Rattle.modes.proofs.MaskLaws.{mask-below, mask-has}
 
 -- ---- bit by bit
 

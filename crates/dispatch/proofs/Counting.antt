@@ -18,10 +18,10 @@ use Rattle.rules.specs.Share.{runningTotal, capacity, share}
 use Rattle.rules.specs.Modes.{fresh, stateAt, isOn, onMask}
 use Rattle.rules.specs.Commands.{counted}
 use Rattle.rules.proofs.StationFacts.{rating-range}
+use Rattle.rules.proofs.Masks.{mask-has}
 use Rattle.laws.proofs.Share.{share-most}
 use Rattle.words.proofs.Weighed.{weighed-has, weighed-not, weighed-rises}
 use Rattle.gensets.proofs.SharesWalk.{ratingOf}
-use Rattle.modes.proofs.MaskLaws.{mask-has}
 use Rattle.modes.proofs.Filled.{Filling, filling-start, filling-at, filling-more}
 use Rattle.dispatch.specs.Sized.{Countable, CountableAll}
 

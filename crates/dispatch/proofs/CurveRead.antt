@@ -14,7 +14,7 @@ use Rattle.rules.specs.declared.station.GenSet.{GenSet}
 use Rattle.rules.specs.Numbers.{if_then_else_, sumTo}
 use Rattle.rules.specs.Fuel.{loadAt, rateAt, stepAt, exactLine, notBelowZero, lowerOf, lowerPoint, exactFrom, fuelRate}
 use Rattle.rules.proofs.StationFacts.{rating-range, points-range}
-use Rattle.laws.proofs.Fuel.{loads-rise, lower-inside}
+use Rattle.rules.proofs.Curve.{loads-rise, lower-inside}
 use Rattle.laws.proofs.FuelMost.{rate-most}
 use Rattle.gensets.specs.Leaves.{lineRight}
 use Rattle.gensets.proofs.Line.{first-most, second-most, width-some, base-most, start-most}

@@ -13,5 +13,3 @@ pub mod QuietEnds
 pub mod Going
 pub mod Walking
 pub mod Alone
-pub mod RowLength
-pub mod FromStart

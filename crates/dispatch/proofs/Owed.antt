@@ -20,9 +20,9 @@ use Rattle.rules.specs.StationRecord.{someFileGives}
 use Rattle.rules.specs.RunRecord.{mostSeconds, possible}
 use Rattle.rules.specs.Row.{rowText}
 use Rattle.rules.specs.Second.{step, inputsRight, admitted, second, Second}
-use Rattle.rules.proofs.Checks.{passes, passed, last-passed}
+use Rattle.rules.proofs.Checks.{passed, last-passed}
 use Rattle.laws.specs.Admitted.{Admitted}
-use Rattle.laws.proofs.Kept.{admitted-of}
+use Rattle.laws.proofs.Kept.{judged-is, admitted-of}
 
 -- ---- what is asked of each second, in its order
 
@@ -56,10 +56,6 @@ module _ (st : Station) (r : Run) (x : Inputs) (lent : List ℕ) where
   abbrev answer : Answer Step
   answer = second st r x (length lent)
 
-  pub judged-is : someFileGives st ≡ true → possible st r ≡ true → answer ≡ (admitted (r .done) x (length lent) >> accepted (step st r x))
-  unfolding second
-  judged-is h k = passes (someFileGives st) 25 0 _ h ∙ passes (possible st r) 24 0 _ k
-
   -- a refused call hands the record back, and leaves the buffer
   pub refused-owes : (why : Refusal) → answer ≡ refusalOf why → Second st r x lent (record { answer = Refused why; run = r }) lent
   refused-owes why e = record { answers = rw e; hands = rw e; leaves = rw e }
@@ -72,10 +68,10 @@ module _ (st : Station) (r : Run) (x : Inputs) (lent : List ℕ) where
 
   module _ (file : someFileGives st ≡ true) (was-possible : possible st r ≡ true) (verdict : Verdict) (is : verdictOf verdict ≡ admitted (r .done) x (length lent)) where
     pub late-refused : (why : Refusal) → verdict ≡ Verdict.Refused why → answer ≡ refusalOf why
-    late-refused why e = judged-is file was-possible ∙ rw (← is, e)
+    late-refused why e = judged-is st r x (length lent) file was-possible ∙ rw (← is, e)
 
     pub none-refused : verdict ≡ Accepted → answer ≡ accepted (step st r x)
-    none-refused e = judged-is file was-possible ∙ rw (← is, e)
+    none-refused e = judged-is st r x (length lent) file was-possible ∙ rw (← is, e)
 
     pub is-admitted : verdict ≡ Accepted → Admitted st r x
     is-admitted e = admitted-of st r x (length lent) (step st r x) (none-refused e) .0

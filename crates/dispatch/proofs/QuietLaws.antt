@@ -21,7 +21,7 @@ use Rattle.rules.specs.Commands.{counted, countedAll, commandFrom, command, eve
 use Rattle.modes.specs.Barred.{barred, barredMask}
 use Rattle.rules.proofs.Tests.{to-at, choice}
 use Rattle.rules.proofs.Tables.{tab-at}
-use Rattle.modes.proofs.MaskLaws.{mask-has}
+use Rattle.rules.proofs.Masks.{mask-has}
 use Rattle.dispatch.specs.Lasting.{countedDown, waited, Lasting, unmoved, unmovedAll}
 use Rattle.dispatch.specs.Quiet.{ranFor, quietAt, sinceQuiet, energyAt, fuelAt, energiesAfter, fuelsAfter}
 use Rattle.dispatch.proofs.LastingLaws.{on-stays, service-stays, on-uncounted, tick-on, tick-waited, command-stays}

@@ -32,12 +32,12 @@ use Rattle.rules.proofs.Tests.{never, both, all-at, to-at, choice}
 use Rattle.rules.proofs.Tables.{tab-at}
 use Rattle.rules.proofs.Shapes.{Tables}
 use Rattle.rules.proofs.StationFacts.{right-of, spinning-most, coverage-most}
+use Rattle.rules.proofs.Masks.{mask-has}
 use Rattle.laws.specs.Admitted.{Admitted}
 use Rattle.laws.proofs.Balance.{load-met}
 use Rattle.laws.proofs.StationAt.{set-at}
 use Rattle.laws.proofs.KeptRest.{chosen-most, watts-small}
 use Rattle.laws.proofs.KeptSets.{Within, from-rules, tick-counts, off-only}
-use Rattle.modes.proofs.MaskLaws.{mask-has}
 use Rattle.gensets.proofs.FileCapacity.{rating-most, capacity-most}
 use Rattle.commitment.specs.Choice.{capacities, Rated}
 use Rattle.dispatch.specs.CurveTable.{InRule, Fillable}

@@ -9,4 +9,3 @@ pub mod Commit
 pub mod Seconds
 pub mod Going
 pub mod QuietSecond
-pub mod Calls

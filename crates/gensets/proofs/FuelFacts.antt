@@ -13,7 +13,7 @@ use Rattle.rules.specs.Fuel.{loadAt, rateAt, stepAt, lowerPoint, exactFrom, fue
 use Rattle.rules.proofs.Tests.{and-true, fact-within}
 use Rattle.rules.proofs.Shapes.{Shaped, tables-of}
 use Rattle.rules.proofs.StationFacts.{rating-range, points-range, pair-at, right-of}
-use Rattle.laws.proofs.Fuel.{loads-rise, lower-inside}
+use Rattle.rules.proofs.Curve.{loads-rise, lower-inside}
 use Rattle.laws.proofs.StationAt.{set-at}
 use Rattle.gensets.specs.Leaves.{lineRight, rateOfSet}
 

@@ -4,7 +4,7 @@
 use Prim.Native.Nat.{ℕ, _+_, _-_, _*_, _/_, _≤_, _<_, min}
 use mathlib.Core.Path.{_≡_}
 use native.Mathlib.Omega.{arith}
-use native.Mathlib.Nat.{div-mul-le-self, mul-le-mul-left, mul-le-mul-right, le-trans}
+use native.Mathlib.Nat.{div-mul-le-self, mul-le-mul-left, mul-le-mul-right, le-refl, le-trans}
 use Rattle.rules.specs.declared.station.Battery.{Battery}
 use Rattle.rules.specs.declared.station.Station.{Station}
 use Rattle.rules.specs.declared.run.Inputs.{Inputs}
@@ -26,18 +26,19 @@ solar-demand : (offered demand floor : ℕ) → solarOnLoad offered demand floor
 unfolding solarOnLoad
 solar-demand offered demand floor = omega arith
 
-pub gives-lacking : (b : Battery) (store cap rest : ℕ) → batteryGives b store cap rest ≤ rest - cap
+-- the battery gives what lies above a threshold: the capacity in document 01, and any number from the floor load to it in these laws
+pub gives-lacking : (b : Battery) (store threshold rest : ℕ) → batteryGives b store threshold rest ≤ rest - threshold
 unfolding batteryGives
-gives-lacking b store cap rest = omega arith
+gives-lacking b store threshold rest = omega arith
 
-gives-content : (b : Battery) (store cap rest : ℕ) → 100 * batteryGives b store cap rest ≤ store - b .least
+gives-content : (b : Battery) (store threshold rest : ℕ) → 100 * batteryGives b store threshold rest ≤ store - b .least
 unfolding batteryGives
-gives-content b store cap rest = omega arith
+gives-content b store threshold rest = omega arith
 
 -- less than is lacking is all that rating and content allow
-gives-all : (b : Battery) (store cap rest : ℕ) → batteryGives b store cap rest < rest - cap → batteryGives b store cap rest ≡ min (b .power) ((store - b .least) / 100)
+gives-all : (b : Battery) (store threshold rest : ℕ) → batteryGives b store threshold rest < rest - threshold → batteryGives b store threshold rest ≡ min (b .power) ((store - b .least) / 100)
 unfolding batteryGives
-gives-all b store cap rest h = omega arith
+gives-all b store threshold rest h = omega arith
 
 pub takes-surplus : (b : Battery) (store surplus : ℕ) → batteryTakes b store surplus ≤ surplus
 unfolding batteryTakes
@@ -81,11 +82,11 @@ solar-used offered demand floor h = omega arith
 none-taken : (b : Battery) (store surplus : ℕ) → surplus ≡ 0 → batteryTakes b store surplus ≡ 0
 none-taken b store surplus h = omega (arith, takes-surplus b store surplus)
 
--- ---- the store
+-- ---- the store, where the battery gives above any threshold
 
-module _ (b : Battery) (store cap rest surplus : ℕ) (low : b .least ≤ store) where
+module _ (b : Battery) (store threshold rest surplus : ℕ) (low : b .least ≤ store) where
   abbrev give : ℕ
-  give = batteryGives b store cap rest
+  give = batteryGives b store threshold rest
 
   abbrev charge : ℕ
   charge = batteryTakes b store surplus
@@ -93,18 +94,65 @@ module _ (b : Battery) (store cap rest surplus : ℕ) (low : b .least ≤ store)
   -- "the store equals its start + efficiency x charged - 100 x given", with no subtraction that could stop at zero
   pub store-moves : storeAfter b store charge give + 100 * give ≡ store + charge * b .efficiency
   unfolding storeAfter
-  store-moves = omega (arith, gives-content b store cap rest)
+  store-moves = omega (arith, gives-content b store threshold rest)
 
   -- "It is within its two limits in each row."
   pub store-least : b .least ≤ storeAfter b store charge give
   unfolding storeAfter
-  store-least = omega (arith, gives-content b store cap rest)
+  store-least = omega (arith, gives-content b store threshold rest)
 
   pub store-most : store ≤ b .most → storeAfter b store charge give ≤ b .most
   unfolding storeAfter
   store-most high = omega (arith, takes-room b store surplus)
 
--- ---- a second
+-- ---- load and solar, where the battery gives above any threshold from the floor load to the capacity
+
+-- "every set on line is at its rating, no solar is spilled or charged, and the battery gives all that its rating and content allow"
+pub record AllServing (b : Battery) (store cap diesel charge spill give : ℕ) : Type 0 where
+  pub diesel-full : diesel ≡ cap
+  pub none-charged : charge ≡ 0
+  pub none-spilled : spill ≡ 0
+  pub battery-full : give ≡ min (b .power) ((store - b .least) / 100)
+
+module _ (b : Battery) (store threshold cap floor load off offered : ℕ) where
+  abbrev onLoad : ℕ
+  onLoad = solarOnLoad offered (load - off) floor
+
+  abbrev left : ℕ
+  left = load - off - onLoad
+
+  abbrev given : ℕ
+  given = batteryGives b store threshold left
+
+  abbrev taken : ℕ
+  taken = batteryTakes b store (offered - onLoad)
+
+  abbrev diesel : ℕ
+  diesel = dieselFor cap (left - given)
+
+  placed-above : offered ≡ onLoad + taken + (offered - onLoad - taken)
+  placed-above = omega (arith, solar-offered offered (load - off) floor, takes-surplus b store (offered - onLoad))
+
+  met-above : off ≤ load → load ≡ diesel + onLoad + given + off + (left - given - diesel)
+  met-above h =
+      let d : onLoad ≤ load - off = le-trans (solar-demand offered (load - off) floor) (omega arith) in
+      let e : given ≤ left = le-trans (gives-lacking b store threshold left) (omega arith) in
+      met load off onLoad left given diesel (rest-is load off onLoad h d) e (diesel-most cap (left - given))
+
+  unserved-above : floor ≤ threshold → threshold ≤ cap → 0 < left - given - diesel → AllServing b store cap diesel taken (offered - onLoad - taken) given
+  unserved-above low high h =
+      let d = diesel-all cap (left - given) h in
+      let f : floor < left = omega (arith, d .1) in
+      let s : onLoad ≡ offered = solar-used offered (load - off) floor f in
+      let k : taken ≡ 0 = none-taken b store (offered - onLoad) (omega arith) in
+      record {
+        diesel-full = d .0;
+        none-charged = k;
+        none-spilled = omega arith;
+        battery-full = gives-all b store threshold left (omega (arith, d .1));
+      }
+
+-- ---- a second: its threshold is the capacity
 
 module _ (b : Battery) (store cap floor decided : ℕ) (x : Inputs) where
   abbrev w : Watts
@@ -113,47 +161,17 @@ module _ (b : Battery) (store cap floor decided : ℕ) (x : Inputs) where
   abbrev off : ℕ
   off = shedNow (x .sheddable) decided
 
-  abbrev solar : ℕ
-  solar = solarOnLoad (x .solar) (x .load - off) floor
-
-  abbrev rest : ℕ
-  rest = x .load - off - solar
-
   -- "solar offered equals solar on the load + charged + spilled"
   pub solar-placed : x .solar ≡ w .solar + w .charge + w .spill
   unfolding wattsFor wattsWith
-  solar-placed =
-      omega (arith, solar-offered (x .solar) (x .load - off) floor, takes-surplus b store (x .solar - solar))
+  solar-placed = placed-above b store cap cap floor (x .load) off (x .solar)
 
   -- "load .. equals diesel + solar on the load + given + shed + unserved"
   pub load-met : x .sheddable ≤ x .load → x .load ≡ w .diesel + w .solar + w .give + w .shed + w .unserved
   unfolding wattsFor wattsWith
-  load-met h =
-      let give : ℕ = batteryGives b store cap rest in
-      let a : off ≤ x .load = le-trans (shed-most (x .sheddable) decided) h in
-      let d : solar ≤ x .load - off = le-trans (solar-demand (x .solar) (x .load - off) floor) (omega arith) in
-      let e : give ≤ rest = le-trans (gives-lacking b store cap rest) (omega arith) in
-      met (x .load) off solar rest give (dieselFor cap (rest - give)) (rest-is (x .load) off solar a d) e (diesel-most cap (rest - give))
+  load-met h = met-above b store cap cap floor (x .load) off (x .solar) (le-trans (shed-most (x .sheddable) decided) h)
 
-  -- "Where a row has load unserved, every set on line is at its rating, no solar is spilled or charged, and the battery gives
-  -- all that its rating and content allow."
-  pub record AllServing : Type 0 where
-    pub diesel-full : w .diesel ≡ cap
-    pub none-charged : w .charge ≡ 0
-    pub none-spilled : w .spill ≡ 0
-    pub battery-full : w .give ≡ min (b .power) ((store - b .least) / 100)
-
-  pub unserved-last : floor ≤ cap → 0 < w .unserved → AllServing
+  -- "Where a row has load unserved, .."
+  pub unserved-last : floor ≤ cap → 0 < w .unserved → AllServing b store cap (w .diesel) (w .charge) (w .spill) (w .give)
   unfolding wattsFor wattsWith
-  unserved-last low h =
-      let give : ℕ = batteryGives b store cap rest in
-      let d = diesel-all cap (rest - give) h in
-      let f : floor < x .load - off - solar = omega (arith, d .1) in
-      let s : solar ≡ x .solar = solar-used (x .solar) (x .load - off) floor f in
-      let k : batteryTakes b store (x .solar - solar) ≡ 0 = none-taken b store (x .solar - solar) (omega arith) in
-      record {
-        diesel-full = d .0;
-        none-charged = k;
-        none-spilled = omega arith;
-        battery-full = gives-all b store cap rest (omega (arith, d .1));
-      }
+  unserved-last low h = unserved-above b store cap cap floor (x .load) off (x .solar) low (le-refl cap) h

@@ -2,35 +2,28 @@
 -- 10,000,000 at a point, and 1,499 steps of 10,000,000 from there. Assumes nothing.
 use Prim.Native.Nat.{ℕ, zero, suc, _+_, _-_, _*_, _≤_, _<_, zero-le}
 use mathlib.Core.Path.{_≡_, refl}
-use mathlib.Core.Bool.{Bool, true, false, cond, not}
+use mathlib.Core.Bool.{true}
 use native.Mathlib.Omega.{arith}
 use native.Mathlib.Nat.{le-refl, mul-le-mul, mul-le-mul-right, mul-comm, div-le-of-le-mul}
-use lib.Dec.{T, ltb, ltb→lt}
 use lib.IntN.{ℤ, pos, negsuc, negℤ, natAbs, subℕ, _+ℤ_, _-ℤ_, _*ℤ_}
 use Rattle.rules.specs.declared.station.GenSet.{GenSet}
 use Rattle.rules.specs.StationRecord.{setRight, pairsRight}
 use Rattle.rules.specs.Fuel.{loadAt, rateAt, stepAt, exactLine, notBelowZero, lowerPoint, exactFrom, fuelRate}
 use Rattle.rules.proofs.StationFacts.{points-range, pair-at}
-use Rattle.laws.proofs.Fuel.{loads-rise, lower-inside}
+use Rattle.rules.proofs.Signed.{Minus, above, below, minus-sub, minus-of}
+use Rattle.rules.proofs.Curve.{loads-rise, lower-inside}
 
 -- ---- whole numbers with a sign, by their distance from zero
 
-choice : (c : Bool) (x y : ℤ) (P : ℤ → Type 0) → (T c → P x) → (T (not c) → P y) → P (cond c x y)
-choice true x y P f g = f tt
-choice false x y P f g = g tt
+abs-most : {z : ℤ} (a b m : ℕ) → a ≤ m → b ≤ m → Minus a b z → natAbs z ≤ m
+abs-most a b m h k (above n e) = omega arith
+abs-most a b m h k (below n e) = omega arith
 
 abs-difference : (a b m : ℕ) → a ≤ m → b ≤ m → natAbs (subℕ a b) ≤ m
-abs-difference a b m h k = choice (ltb a b) (negsuc (b - suc a)) (pos (a - b)) (λ z. natAbs z ≤ m) (λ t. below (ltb→lt a b t)) (λ t. above)
-  where
-    below : a < b → suc (b - suc a) ≤ m
-    below l = omega arith
-
-    above : a - b ≤ m
-    above = omega arith
+abs-difference a b m h k = abs-most a b m h k (minus-sub a b)
 
 pub abs-minus : (a b m : ℕ) → a ≤ m → b ≤ m → natAbs (pos a -ℤ pos b) ≤ m
-abs-minus a zero m h k = omega arith
-abs-minus a (suc b) m h k = abs-difference a (suc b) m h k
+abs-minus a b m h k = abs-most a b m h k (minus-of a b)
 
 abs-negated : (n : ℕ) → natAbs (negℤ (pos n)) ≡ n
 abs-negated zero = refl

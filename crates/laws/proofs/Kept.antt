@@ -18,7 +18,7 @@ use Rattle.rules.specs.declared.run.Watts.{Watts}
 use Rattle.rules.specs.declared.run.Run.{Run}
 use Rattle.rules.specs.declared.run.Step.{Step}
 use Rattle.rules.specs.Numbers.{within, has}
-use Rattle.rules.specs.Answers.{accepted}
+use Rattle.rules.specs.Answers.{accepted, _>>_}
 use Rattle.rules.specs.StationRecord.{setAt, someFileGives}
 use Rattle.rules.specs.Share.{share}
 use Rattle.rules.specs.Modes.{fresh, stateAt, tick, ticked}
@@ -28,7 +28,7 @@ use Rattle.rules.specs.Configuration.{maskCalled}
 use Rattle.rules.specs.RunRecord.{mostSeconds, statePossible, statesPossible, totalsPossible, decidedPossible, recordRules, possible}
 use Rattle.rules.specs.Second.{statesNow, onNow, capNow, floorNow, wattsNow, storeNow, decidedNow, ranNow, heldNow, callNow, commandedNow, plus, recordAfter, step, inputsRight, admitted, second}
 use Rattle.rules.proofs.Tests.{and-true, all-at, to-at, to-all, within-fact, fact-within}
-use Rattle.rules.proofs.Checks.{passed, both-passed, same-value}
+use Rattle.rules.proofs.Checks.{passes, passed, both-passed, same-value}
 use Rattle.rules.proofs.Tables.{tab-at, has-beyond}
 use Rattle.rules.proofs.Shapes.{Tables}
 use Rattle.rules.proofs.StationFacts.{Right, right-of, delay-range}
@@ -43,6 +43,11 @@ use Rattle.laws.proofs.KeptRest.{chosen-most, since-most, watts-small, 
 diesel-cap : (cap rest : ℕ) → dieselFor cap rest ≤ cap
 unfolding dieselFor
 diesel-cap cap rest = omega arith
+
+-- a second of a station and a record that were judged
+pub judged-is : (st : Station) (r : Run) (x : Inputs) (room : ℕ) → someFileGives st ≡ true → possible st r ≡ true → second st r x room ≡ (admitted (r .done) x room >> accepted (step st r x))
+unfolding second
+judged-is st r x room h k = passes (someFileGives st) 25 0 _ h ∙ passes (possible st r) 24 0 _ k
 
 pub admitted-of : (st : Station) (r : Run) (x : Inputs) (room : ℕ) (s : Step) → second st r x room ≡ accepted s → Admitted st r x × (step st r x ≡ s)
 unfolding second admitted

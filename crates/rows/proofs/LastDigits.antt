@@ -6,8 +6,8 @@ use native.Mathlib.Nat.{pow-suc, mul-assoc, mul-comm, div-div-eq-div-mul, mod-ad
 use native.Mathlib.Omega.{arith}
 use lib.ListN.{length, length-append}
 use Rattle.rules.specs.Bytes.{decimal}
+use Rattle.rules.proofs.Decimals.{decimal-one, decimal-more}
 use Rattle.rows.specs.Written.{Front, placed, lastDigits}
-use Rattle.rows.proofs.Decimals.{decimal-one, decimal-more}
 use Rattle.rows.proofs.Texts.{goes-on}
 
 pub length-last : (k n : ℕ) → length (lastDigits k n) ≡ k

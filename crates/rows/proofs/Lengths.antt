@@ -9,8 +9,8 @@ use Rattle.rules.specs.declared.run.SetState.{SetState}
 use Rattle.rules.specs.Bytes.{LF, comma, bytes, decimal, commaLine}
 use Rattle.rules.specs.Row.{rowHeading, setHeading, refusalLine}
 use Rattle.rules.proofs.LittleEndian.{AllBelow}
+use Rattle.rules.proofs.Decimals.{digits-64}
 use Rattle.rows.specs.SetLine.{setColumns, setLine}
-use Rattle.rows.proofs.Decimals.{digits-64}
 
 -- ---- a line of numbers
 

@@ -1,17 +1,13 @@
--- A row's line, number after number, and its length: at most 153 bytes, of the 256 that a lent buffer has at least (26). Assumes nothing.
-use Prim.Native.Nat.{ℕ, suc, _+_, _*_, _^_, _≤_, _<_}
+-- A row's line, number after number, as the code writes it. Assumes nothing.
+use Prim.Native.Nat.{ℕ, suc, _+_, _<_}
 use mathlib.Core.Path.{_≡_, refl, sym, ap, _∙_}
 use mathlib.Core.List.{List, [], _∷_, _++_, append-assoc, append-nil}
 use native.Mathlib.Omega.{arith}
 use native.Mathlib.Numerals.{add-one}
 use lib.ListN.{length, take, getD, length-append}
 use lib.Seq.{take-suc, take-all}
-use Rattle.rules.specs.declared.run.Row.{Row}
 use Rattle.rules.specs.Bytes.{LF, comma, decimal, commaLine}
-use Rattle.rules.specs.Row.{columns, rowText}
-use Rattle.rules.proofs.LittleEndian.{AllBelow}
 use Rattle.rows.specs.Written.{ended, commaed}
-use Rattle.rows.proofs.Decimals.{digits-32, digits-64}
 
 pub length-ended : (number after : ℕ) → length (ended number after) ≡ length (decimal number) + 1
 unfolding ended
@@ -50,22 +46,3 @@ line-last xs i e =
 pub line-last-on : (before xs : List ℕ) (i : ℕ) → i + 1 ≡ length xs → (before ++ commaed (take i xs)) ++ ended (getD xs i 0) LF ≡ before ++ commaLine xs
 line-last-on before xs i e =
     append-assoc before (commaed (take i xs)) (ended (getD xs i 0) LF) ∙ ap (λ (t : List ℕ). before ++ t) (sym (line-last xs i e))
-
--- ---- its length
-
-commaed-most : (xs : List ℕ) → AllBelow (2 ^ 32) xs → length (commaed xs) ≤ 11 * length xs
-unfolding commaed
-commaed-most [] h = omega arith
-commaed-most (x ∷ xs) h = omega (arith, length-append (ended x comma) (commaed xs), length-ended x comma, digits-32 x (h .0), commaed-most xs (h .1))
-
-pub line-most : (xs : List ℕ) (x : ℕ) → AllBelow (2 ^ 32) xs → x < 2 ^ 64 → length (commaLine (xs ++ (x ∷ []))) ≤ 11 * length xs + 21
-line-most xs x h k = rw (line-ends xs x) (omega (arith, length-append (commaed xs) (ended x LF), length-ended x LF, digits-64 x k, commaed-most xs h))
-
--- a row's numbers but the store
-abbrev pub beforeStore : Row → List ℕ
-beforeStore r = take 12 (columns r)
-
--- THE LENGTH OF A ROW whose numbers fit their types
-pub row-most : (r : Row) → AllBelow (2 ^ 32) (beforeStore r) → r .store < 2 ^ 64 → length (rowText r) ≤ 153
-unfolding rowText
-row-most r h k = line-most (beforeStore r) (r .store) h k

@@ -5,6 +5,10 @@ use mathlib.Core.Bool.{Bool, true, false}
 use Rattle.rules.specs.Answers.{Answer, accepted, refused, need, isAccepted, judged, valueOr, _>>=_, _>>_}
 use native.Mathlib.Omega.{arith}
 
+-- nothing is both refused and accepted
+pub not-accepted : {A B : Type 0} (number place : ℕ) (b : A) → _≡_ {A = Answer A} (refused number place) (accepted b) → B
+not-accepted number place b e = absurd (let z : _≡_ {A = ℕ} 0 1 = cc in omega arith)
+
 -- a check that passes leaves the rest
 pub passes : {A : Type 0} (b : Bool) (n p : ℕ) (rest : Answer A) → b ≡ true → (need b n p >> rest) ≡ rest
 passes true n p rest h = refl

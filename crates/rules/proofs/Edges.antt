@@ -1,17 +1,15 @@
 -- Laws at the paper's edges, where its words fix what no worked case shows. Assumes nothing.
-use Prim.Native.Nat.{ℕ, zero, suc, _+_, _-_, _*_, _/_, _%_, _^_, _≤_, _<_}
-use mathlib.Core.Path.{_≡_, refl, _∙_}
-use mathlib.Core.Bool.{Bool, true, false}
-use mathlib.Core.List.{List, [], _∷_, _++_}
+use Prim.Native.Nat.{ℕ, _+_, _*_, _≤_, _<_}
+use mathlib.Core.Path.{_≡_}
+use mathlib.Core.Bool.{true, false}
+use mathlib.Core.List.{List}
 use native.Mathlib.Omega.{arith}
-use native.Mathlib.Nat.{pow-suc}
 use lib.Dec.{leb, ltb}
 use Rattle.rules.specs.declared.station.Control.{Control}
 use Rattle.rules.specs.declared.station.Station.{Station}
 use Rattle.rules.specs.declared.run.Run.{Run}
 use Rattle.rules.specs.declared.run.Inputs.{Inputs}
-use Rattle.rules.specs.Numbers.{if_then_else_}
-use Rattle.rules.specs.Bytes.{point, digitsIn, decimal, digits, valueFrom, value, parts}
+use Rattle.rules.specs.Bytes.{point, digits, parts}
 use Rattle.rules.specs.Answers.{accepted, refused}
 use Rattle.rules.specs.SampleFile.{timeCell, powerForm, powerCell}
 use Rattle.rules.specs.Setpoint.{coverageOf}
@@ -72,28 +70,3 @@ module _ (st : Station) (r : Run) (x : Inputs) (room : ℕ) where
             pub second-accepted : leb 256 room ≡ true → second st r x room ≡ accepted (step st r x)
             unfolding second admitted
             second-accepted a = rw (given, fair, more, limits, part, a)
-
--- ---- a decimal number that is written reads back
-
-value-append : (v : ℕ) (xs : List ℕ) (d : ℕ) → valueFrom v (xs ++ (d ∷ [])) ≡ valueFrom v xs * 10 + (d - 48)
-unfolding valueFrom
-value-append v [] d = refl
-value-append v (x ∷ xs) d = value-append (v * 10 + (x - 48)) xs d
-
-value-in : (room n : ℕ) → n < 10 ^ suc room → value (digitsIn room n) ≡ n
-unfolding digitsIn valueFrom
-value-in zero n h = omega arith
-value-in (suc room) n h = go (ltb n 10) refl (value-in room (n / 10) (let k : n < 10 ^ suc room * 10 = rw pow-suc at h in omega arith))
-  where
-    go : (b : Bool) → ltb n 10 ≡ b → value (digitsIn room (n / 10)) ≡ n / 10
-        → value (if b then (48 + n) ∷ [] else (digitsIn room (n / 10) ++ ((48 + n % 10) ∷ []))) ≡ n
-    go true e ih = omega arith
-    go false e ih = value-append 0 (digitsIn room (n / 10)) (48 + n % 10) ∙ (rw ih (omega arith))
-
-below-power : (n : ℕ) → n < 10 ^ suc n
-below-power zero = omega arith
-below-power (suc n) = rw pow-suc (omega (arith, below-power n))
-
-pub decimal-value : (n : ℕ) → value (decimal n) ≡ n
-unfolding decimal
-decimal-value n = value-in n n (below-power n)

@@ -8,14 +8,17 @@ pub mod Lines
 pub mod SampleFile
 pub mod Share
 pub mod Fuel
+pub mod Curve
 pub mod Modes
 pub mod Flows
 pub mod Setpoint
 pub mod Configuration
+pub mod Serving
 pub mod Commands
 pub mod RunRecord
 pub mod Row
 pub mod Second
+pub mod Calls
 pub mod Sizing
 pub mod Run
 pub mod RefusalTables

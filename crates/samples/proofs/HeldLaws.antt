@@ -16,7 +16,7 @@ use Rattle.rules.specs.Lines.{Line}
 use Rattle.rules.specs.SampleFile.{holding}
 use Rattle.rules.specs.Run.{inputsOf}
 use Rattle.rules.proofs.Tests.{never}
-use Rattle.rules.proofs.Checks.{same-value}
+use Rattle.rules.proofs.Checks.{not-accepted, same-value}
 use Rattle.samples.specs.declared.stage.Stage.{Stage}
 use Rattle.samples.specs.declared.stage.Found.{Found}
 use Rattle.samples.specs.declared.reader.NextRow.{NextRow}
@@ -31,9 +31,6 @@ use Rattle.samples.specs.Held.{rowsAhead, sourceRows, isEnded, sourceEnd
 use Rattle.samples.proofs.LineLaws.{drop-least}
 
 -- ---- rows that are held
-
-pub not-accepted : {A B : Type 0} (number place : ℕ) (b : A) → _≡_ {A = Answer A} (refused number place) (accepted b) → B
-not-accepted number place b e = absurd (let z : _≡_ {A = ℕ} 0 1 = cc in omega arith)
 
 -- a row that has come into force is held from then on
 pub in-force : (now x : Sample) (rows : List Sample) (t n : ℕ) → x .at ≤ t → heldFrom now (x ∷ rows) t n ≡ heldFrom x rows t n

@@ -20,13 +20,14 @@ use Rattle.rules.specs.Run.{inputsOf, rowsFrom, secondsAsked, runOf, shown, pri
 use Rattle.rules.proofs.Shapes.{tables-of}
 use Rattle.rules.proofs.Start.{start-possible}
 use Rattle.rules.proofs.StationRead.{read-is-right}
+use Rattle.rules.proofs.SampleRows.{RowRight, RowsRight}
 use Rattle.records.proofs.StartTold.{start-accepted}
 use Rattle.samples.specs.declared.check.Span.{Span}
 use Rattle.samples.specs.declared.inputs.Ahead.{Ahead}
 use Rattle.samples.specs.ToCome.{placed}
 use Rattle.samples.specs.Streamed.{sheetSpan, spanOf}
 use Rattle.samples.specs.Held.{sourceRows, heldFrom}
-use Rattle.samples.proofs.RowsRight.{RowRight, RowsRight, AheadRight, SourceRight, start-right, source-rows-right}
+use Rattle.samples.proofs.RowsRight.{AheadRight, SourceRight, start-right, source-rows-right}
 use Rattle.simulation.specs.declared.state.Phase.{Phase}
 use Rattle.simulation.specs.declared.state.Simulation.{Simulation}
 use Rattle.simulation.specs.Rows.{rowTexts, runAfter, setTexts, rowsWith, Right, AllRight, none, more}

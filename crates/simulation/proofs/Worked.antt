@@ -21,8 +21,8 @@ use Rattle.rules.specs.Second.{step, recordAfter, second, admitted, inputsRight
 use Rattle.rules.proofs.Shapes.{Tables}
 use Rattle.laws.specs.Admitted.{Admitted}
 use Rattle.laws.proofs.Kept.{admitted-of, second-kept}
+use Rattle.laws.proofs.RowLength.{row-length}
 use Rattle.dispatch.specs.Seconds.{Calls, onward, callsFrom, callsOf}
-use Rattle.dispatch.proofs.RowLength.{row-length}
 use Rattle.simulation.specs.Rows.{rowTexts, runAfter, Right, AllRight, none, more}
 
 module _ (st : Station) (room : ℕ) where

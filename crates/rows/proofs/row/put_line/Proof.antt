@@ -10,8 +10,8 @@ use lib.Seq.{take-all}
 use denote.Ref.{now}
 use borrow.Author.Needs.{needs}
 use Rattle.rules.specs.Bytes.{LF, comma}
+use Rattle.rules.proofs.Decimals.{digits-32, digits-64}
 use Rattle.rows.specs.Written.{Front, ended, commaed}
-use Rattle.rows.proofs.Decimals.{digits-32, digits-64}
 use Rattle.rows.proofs.Texts.{goes-on}
 use Rattle.rows.proofs.Lines.{length-ended, commaed-step, line-ends}
 use Rattle.rows.proofs.row.put_line.Statement.{statement}

@@ -8,8 +8,8 @@ use lib.ListN.{length, take, getD}
 use denote.Ref.{now}
 use borrow.Author.Needs.{needs}
 use Rattle.rules.specs.Bytes.{LF, comma, commaLine}
+use Rattle.rules.proofs.Decimals.{digits-64}
 use Rattle.rows.specs.Written.{Front, ended, commaed}
-use Rattle.rows.proofs.Decimals.{digits-64}
 use Rattle.rows.proofs.Texts.{goes-on, from-here, stands}
 use Rattle.rows.proofs.Lines.{length-ended, commaed-on, line-last-on}
 use Rattle.rows.proofs.text.put_numbers.Statement.{statement}

@@ -1,0 +1,6 @@
+-- The theorems of a whole run, over the rules.
+pub mod Seconds
+pub mod Lists
+pub mod OverRows
+pub mod Calls
+pub mod Claim
