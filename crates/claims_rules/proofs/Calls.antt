@@ -34,7 +34,7 @@ abbrev pub Owes : Station → Run → Call → Type 0
 Owes st r c = Second st r (c .inputs) (c .lent) (c .handed) (c .left)
 
 -- a second that is admitted has room for its row: "row buffer under 256 bytes" is refused
-room-passed : (done : ℕ) (x : Inputs) (room : ℕ) → admitted done x room ≡ accepted tt → 256 ≤ room
+pub room-passed : (done : ℕ) (x : Inputs) (room : ℕ) → admitted done x room ≡ accepted tt → 256 ≤ room
 unfolding admitted
 room-passed done x room h =
     let a = passed (ltb done mostSeconds) 23 0 _ tt h in

@@ -4,3 +4,4 @@ pub mod Lists
 pub mod OverRows
 pub mod Calls
 pub mod Claim
+pub mod Batches

@@ -4,3 +4,4 @@ pub mod Replay
 pub mod InRow
 pub mod Burned
 pub mod Claim
+pub mod Batches

@@ -1,0 +1,84 @@
+-- DEMAND 3 of lists in which calls of one second and calls of many are mixed. Definitions only; proofs/Mixed.antt has the theorem.
+use Prim.Native.Nat.{ℕ}
+use mathlib.Core.Path.{_≡_}
+use mathlib.Core.List.{List, [], _∷_, map}
+use Rattle.rules.specs.declared.answers.Verdict.the-variants.{Accepted}
+use Rattle.rules.specs.declared.station.Station.{Station}
+use Rattle.rules.specs.declared.run.Inputs.{Inputs}
+use Rattle.rules.specs.declared.run.Run.{Run}
+use Rattle.rules.specs.Answers.{Answer, accepted, refused, verdictOf, outcomeOf}
+use Rattle.rules.specs.StationFile.{stationFile}
+use Rattle.rules.specs.Calls.{Call}
+use Rattle.station.specs.declared.reader.Reading.{Reading}
+use Rattle.records.specs.declared.start.Started.{Started}
+use Rattle.dispatch.specs.Seconds.{inputsOf}
+use Rattle.claims_rules.specs.Batches.{Batch, ClaimBatches}
+use Rattle.claims.specs.Functions.{ReadBy, StartedBy, CalledBy, ManyCall, ManyBy, AskNothing}
+use Rattle.claims.specs.Demand3.{FromFile}
+
+-- ---- each call as a batch
+
+-- a call of one second: accepted with the size of its row, or refused
+abbrev pub batchBy : Answer ℕ → Call → Batch
+batchBy (accepted size) c = record { inputs = c .inputs ∷ []; lent = c .lent; run = c .handed .run; seconds = 1; bytes = size; ended = accepted tt; left = c .left }
+batchBy (refused number place) c = record { inputs = c .inputs ∷ []; lent = c .lent; run = c .handed .run; seconds = 0; bytes = 0; ended = refused number place; left = c .left }
+
+abbrev pub oneOf : Call → Batch
+oneOf c = batchBy (outcomeOf (c .handed .answer)) c
+
+-- a call of many: a second is asked for each place that all three slices have
+abbrev pub manyOf : ManyCall → Batch
+manyOf m = record {
+  inputs = inputsOf (m .loads) (m .solars) (m .sheddables);
+  lent = m .lent;
+  run = m .worked .run;
+  seconds = m .worked .seconds;
+  bytes = m .worked .bytes;
+  ended = verdictOf (m .worked .verdict);
+  left = m .left;
+}
+
+-- "Each gets the record last handed back", whichever of the two handed it back
+pub data Mixed (st : Station) : Run → List Batch → Run → Type 0 where
+  none : {r : Run} → Mixed st r [] r
+  one : {r last : Run} {bs : List Batch} (c : Call) → CalledBy st r c → Mixed st (c .handed .run) bs last → Mixed st r (oneOf c ∷ bs) last
+  many : {r last : Run} {bs : List Batch} (m : ManyCall) → ManyBy st r m → Mixed st (m .worked .run) bs last → Mixed st r (manyOf m ∷ bs) last
+
+-- ---- and such lists exist
+
+-- what a call is handed beside station and record
+pub data Handing : Type 0 where
+  second : Inputs → List ℕ → Handing
+  seconds : List ℕ → List ℕ → List ℕ → List ℕ → Handing
+
+-- a batch was handed just that
+abbrev pub HandedTo : Handing → Batch → Type 0
+HandedTo (second x lent) b = (b .inputs ≡ x ∷ []) × (b .lent ≡ lent)
+HandedTo (seconds loads solars sheddables lent) b = (b .inputs ≡ inputsOf loads solars sheddables) × (b .lent ≡ lent)
+
+abbrev pub AsHanded : List Handing → List Batch → Type 0
+AsHanded [] [] = Unit {0}
+AsHanded [] (b ∷ bs) = ⊥
+AsHanded (h ∷ hs) [] = ⊥
+AsHanded (h ∷ hs) (b ∷ bs) = HandedTo h b × AsHanded hs bs
+
+pub record RealisedMixed (file : List ℕ) (handed : List Handing) : Type 0 where
+  pub reading : Reading
+  pub was-read : ReadBy file reading
+  pub was-accepted : reading .verdict ≡ Accepted
+  pub started : Started
+  pub was-started : StartedBy (reading .station) started
+  pub from-file : FromFile file reading started
+  pub batches : List Batch
+  pub last : Run
+  pub mixed : Mixed (reading .station) (started .run) batches last
+  pub as-handed : AsHanded handed batches
+
+-- ---- the demand
+
+pub record MixedDemand3 : Type 0 where
+  pub any-arguments : AskNothing
+  pub every-list : (file : List ℕ) (g : Reading) (s : Started) (batches : List Batch) (last : Run)
+      → ReadBy file g → g .verdict ≡ Accepted → StartedBy (g .station) s → Mixed (g .station) (s .run) batches last
+      → FromFile file g s × ClaimBatches (g .station) (s .run) batches last
+  pub lists-exist : (file : List ℕ) (st : Station) → stationFile file ≡ accepted st → (handed : List Handing) → RealisedMixed file handed
