@@ -56,13 +56,13 @@ impl Fault {
     }
 
     /// A row's text.
-    pub fn row(self, shown: [i64; 13]) -> String {
+    pub fn row(self, shown: [i64; 13], first: [i64; 13]) -> String {
         let mut shown = shown;
         if self == Fault::ColumnsMoved {
             shown[1..].rotate_left(1);
         }
-        if self == Fault::RowZeroAgain && shown[0] > 0 {
-            shown[12] += 1;
+        if self == Fault::RowZeroAgain {
+            shown[1..].copy_from_slice(&first[1..]);
         }
         shown.map(|number| number.to_string()).join(",")
     }

@@ -39,6 +39,7 @@ struct Run<'a> {
     since: i64,
     held: Option<f64>,
     decided: Vec<i64>,
+    first_row: Option<[i64; 13]>,
     printed: String,
 }
 
@@ -62,7 +63,11 @@ pub fn simulate(station: &Station, samples: &[Sample], seconds: i64, fault: Faul
     let start = i64::from(station.control.start_mask);
     let set = |(place, genset): (usize, &Genset)| Set {
         genset: *genset,
-        mode: if start >> place & 1 == 1 { Mode::On } else { Mode::Off },
+        mode: if start >> place & 1 == 1 {
+            Mode::On
+        } else {
+            Mode::Off
+        },
         left: 0,
         clock: 0,
         run: 0,
@@ -80,6 +85,7 @@ pub fn simulate(station: &Station, samples: &[Sample], seconds: i64, fault: Faul
         since: 0,
         held: None,
         decided: vec![0; station.control.shed_delay as usize],
+        first_row: None,
         printed: "t,load,shed,solar,charge,spill,give,diesel,unserved,on,sets,call,store\n".into(),
     };
     for second in 0..seconds {
@@ -115,7 +121,9 @@ impl Run<'_> {
 
     fn mask(&self, holds: impl Fn(&Set) -> bool) -> i64 {
         let sets = self.sets.iter().enumerate();
-        sets.fold(0, |mask, (place, set)| mask | i64::from(holds(set)) << place)
+        sets.fold(0, |mask, (place, set)| {
+            mask | i64::from(holds(set)) << place
+        })
     }
 
     fn rated(&self, mask: i64) -> i64 {
@@ -126,45 +134,35 @@ impl Run<'_> {
 
     /// Steps 2 to 7.
     fn watts(&mut self, sample: &Sample, on: i64) -> Watts {
-        let (control, battery) = (&self.station.control, &self.station.battery);
         let (load, offered, sheddable) = self.fault.inputs(sample);
         let cap = self.rated(on);
-        let floor = match self.fault {
-            Fault::NoFloor => 0,
-            _ => cap * i64::from(control.minimum_load) / 100,
+        let off = sheddable.min(self.decided.remove(0));
+        let charge_before = match self.fault {
+            Fault::ChargeFirst => offered.min(self.room()),
+            _ => 0,
         };
-        let decided_first = self.decided.remove(0);
-        let off = sheddable.min(decided_first);
-        let power = i64::from(battery.power);
-        let room = (battery.most as i64 - self.store).max(0) / i64::from(battery.efficiency);
-        let mut left = offered;
-        let mut charge = 0;
-        if self.fault == Fault::ChargeFirst {
-            charge = left.min(power).min(room);
-            left -= charge;
-        }
-        let solar = left.min((load - off - floor).max(0));
-        left -= solar;
+        let solar = (offered - charge_before).min((load - off - self.floor(cap)).max(0));
         let rest = load - off - solar;
-        let give = self.give((rest - cap).max(0), power);
-        if self.fault != Fault::ChargeFirst {
-            charge = left.min(power).min(room);
-            left -= charge;
-        }
+        let give = self.give((rest - cap).max(0));
+        let charge = match self.fault {
+            Fault::ChargeFirst => charge_before,
+            _ => (offered - solar).min(self.room()),
+        };
         let diesel = match self.fault {
             Fault::DieselOfNoSet if cap == 0 => rest - give,
             Fault::SetsHeldBack => (rest - give).min(cap * 9 / 10),
             _ => (rest - give).min(cap),
         };
-        let above = (load - solar - cap * i64::from(control.shed) / 100).max(0);
-        self.decided.push(sheddable.min(above));
+        let kept = cap * i64::from(self.station.control.shed) / 100;
+        self.decided
+            .push(sheddable.min((load - solar - kept).max(0)));
         Watts {
             load,
             sheddable,
             off,
             solar,
             charge,
-            spill: left,
+            spill: offered - solar - charge,
             give,
             diesel,
             unserved: rest - give - diesel,
@@ -172,8 +170,24 @@ impl Run<'_> {
         }
     }
 
-    fn give(&self, missing: i64, power: i64) -> i64 {
-        let content = (self.store - self.station.battery.least as i64) / 100;
+    fn floor(&self, cap: i64) -> i64 {
+        match self.fault {
+            Fault::NoFloor => 0,
+            _ => cap * i64::from(self.station.control.minimum_load) / 100,
+        }
+    }
+
+    /// What the battery takes up in a second.
+    fn room(&self) -> i64 {
+        let battery = &self.station.battery;
+        let room = (battery.most as i64 - self.store).max(0) / i64::from(battery.efficiency);
+        room.min(i64::from(battery.power))
+    }
+
+    fn give(&self, missing: i64) -> i64 {
+        let battery = &self.station.battery;
+        let power = i64::from(battery.power);
+        let content = (self.store - battery.least as i64).max(0) / 100;
         match self.fault {
             Fault::GivesPastLeast => missing.min(power),
             Fault::GivesOfSameRow => missing.min(power).min(content / 2),
@@ -273,20 +287,44 @@ impl Run<'_> {
     }
 
     fn print(&mut self, second: i64, w: &Watts, on: i64) {
-        let spill = if self.fault == Fault::NoSpill { 0 } else { w.spill };
+        let spill = if self.fault == Fault::NoSpill {
+            0
+        } else {
+            w.spill
+        };
         let shown = [
-            second, w.load, w.off, w.solar, w.charge, spill, w.give, w.diesel, w.unserved, on,
-            i64::from(on.count_ones()), self.called as i64, self.store,
+            second,
+            w.load,
+            w.off,
+            w.solar,
+            w.charge,
+            spill,
+            w.give,
+            w.diesel,
+            w.unserved,
+            on,
+            i64::from(on.count_ones()),
+            self.called as i64,
+            self.store,
         ];
-        self.printed.push_str(&self.fault.row(shown));
+        let first = *self.first_row.get_or_insert(shown);
+        self.printed.push_str(&self.fault.row(shown, first));
         self.printed.push('\n');
     }
 
     fn finished(mut self) -> String {
         self.printed.push_str("set,run,starts,stops,energy,fuel\n");
         for (place, set) in self.sets.iter().enumerate() {
-            let numbers = [place as i64 + 1, set.run, set.starts, set.stops, set.energy, set.fuel];
-            self.printed.push_str(&numbers.map(|number| number.to_string()).join(","));
+            let numbers = [
+                place as i64 + 1,
+                set.run,
+                set.starts,
+                set.stops,
+                set.energy,
+                set.fuel,
+            ];
+            self.printed
+                .push_str(&numbers.map(|number| number.to_string()).join(","));
             self.printed.push('\n');
         }
         self.printed
@@ -318,7 +356,11 @@ impl Set {
                 self.enter(Mode::Service, self.genset.service_time)
             }
             Mode::Service => {
-                self.clock = if fault == Fault::ClockNotReset { self.clock } else { 0 };
+                self.clock = if fault == Fault::ClockNotReset {
+                    self.clock
+                } else {
+                    0
+                };
                 self.enter(Mode::Off, 0);
             }
             _ => self.enter(Mode::Off, 0),
