@@ -68,6 +68,30 @@ fn called_at_the_edge_of_covering() {
     assert_eq!(judged("170.001", &row(4), two), "broken,called,2");
 }
 
+/// P8's reserve: spinning 10,000, coverage 50 % of 10,001 W, live 12,000: 0, and with
+/// maintain 10,000. R is 55,001 W, and configuration 1 has 60,000 W. Coverage of all of
+/// 10,001 W less the live 5,000 is 5,001 with maintain, and with no spinning reserve.
+#[test]
+fn reserve_with_live_load_and_maintain() {
+    let called_1 = |spinning: u32, coverage: u32, maintain: u32, live: &str| {
+        let mut station = station_a::station();
+        station.control.spinning_reserve = spinning;
+        station.control.solar_coverage = coverage;
+        station.control.maintain = maintain;
+        let rows = ["0,65002,0,10001,0,0,0,55001,0,2,1,1,1000000"];
+        let lines = ["1,0,0,0,0,0", "2,1,0,0,55001,15250"];
+        let sheet = sheet("65.002", "10.001", live);
+        said(&station_bytes(&station), &sheet, "1", &text(&rows, &lines))
+    };
+    assert_eq!(called_1(10_000, 50, 0, "12"), "holds");
+    assert_eq!(called_1(10_000, 50, 1, "12"), "broken,called,2");
+    assert_eq!(called_1(0, 100, 1, "5"), "broken,called,2");
+    assert_eq!(called_1(0, 100, 1, "5.002"), "holds");
+    // 50 % of 10,001 W is 5,001 W, rounded up; 4,999 W are to spare.
+    assert_eq!(called_1(0, 50, 0, "0.001"), "broken,called,2");
+    assert_eq!(called_1(0, 50, 0, "0.002"), "holds");
+}
+
 #[test]
 fn clocks_not_followed() {
     let samples = std::str::from_utf8(SAMPLES).expect("ASCII");

@@ -82,7 +82,7 @@ enum Expected {
     NoWord,
 }
 
-const EXPECTED: [(Fault, Expected); 34] = [
+const EXPECTED: [(Fault, Expected); 35] = [
     (Fault::EfficiencyOnGive, Expected::Each),
     (Fault::ChargeWithoutLoss, Expected::Each),
     (Fault::ChargeFirst, Expected::Some),
@@ -115,6 +115,7 @@ const EXPECTED: [(Fault, Expected); 34] = [
     (Fault::NoFilter, Expected::Some),
     (Fault::FilterTurned, Expected::Some),
     (Fault::NoReserve, Expected::Some),
+    (Fault::MaintainIgnored, Expected::Some),
     (Fault::CoverageRoundedDown, Expected::Some),
     (Fault::LiveAdded, Expected::NoWord),
 ];

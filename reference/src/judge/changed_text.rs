@@ -1,4 +1,5 @@
-//! A printed text with one number changed, in one of the ways in which numbers go wrong.
+//! A printed text with one number changed, in one of the ways in which numbers go wrong;
+//! two of them take the number beside it along.
 
 use super::printed::{row_line, set_line, ROW_HEADING, SET_HEADING};
 use crate::generator::random::Random;
@@ -12,18 +13,21 @@ pub enum Way {
     Zero,
     /// Exchanged with the column to its right, the last with the one to its left.
     Swapped,
+    /// Some of it moved into that column, so that a sum may still come out.
+    Moved,
     RandomAmount,
     OtherDigit,
     /// Off by two to nine.
     Few,
 }
 
-pub const WAYS: [Way; 8] = [
+pub const WAYS: [Way; 9] = [
     Way::OneMore,
     Way::OneLess,
     Way::Doubled,
     Way::Zero,
     Way::Swapped,
+    Way::Moved,
     Way::RandomAmount,
     Way::OtherDigit,
     Way::Few,
@@ -37,6 +41,7 @@ impl Way {
             Way::Doubled => "doubled",
             Way::Zero => "zero",
             Way::Swapped => "swapped",
+            Way::Moved => "moved",
             Way::RandomAmount => "random-amount",
             Way::OtherDigit => "other-digit",
             Way::Few => "few",
@@ -117,16 +122,20 @@ impl Changeable {
         way: Way,
     ) -> Option<(String, Vec<u8>)> {
         let cells = self.lines.get(line - 1)?;
+        let neighbour = match index + 1 < cells.len() {
+            true => index + 1,
+            false => index.checked_sub(1)?,
+        };
         let mut changed = cells.clone();
-        if way == Way::Swapped {
-            let neighbour = if index + 1 < cells.len() {
-                index + 1
-            } else {
-                index - 1
-            };
-            changed.swap(index, neighbour);
-        } else {
-            *changed.get_mut(index)? = another(random, cells.get(index)?, way)?;
+        match way {
+            Way::Swapped => changed.swap(index, neighbour),
+            Way::Moved => {
+                let (from, to) = (cells.get(index)?, cells.get(neighbour)?);
+                let (less, more) = moved(random, from, to)?;
+                *changed.get_mut(index)? = less;
+                *changed.get_mut(neighbour)? = more;
+            }
+            _ => *changed.get_mut(index)? = another(random, cells.get(index)?, way)?,
         }
         if changed == *cells {
             return None;
@@ -166,9 +175,17 @@ fn another(random: &mut Random, text: &str, way: Way) -> Option<String> {
         }
         Way::Few => off_by(random.between(2, 9), random.chance(50)),
         Way::OtherDigit => return Some(other_digit(random, text)),
-        Way::Swapped => None,
+        Way::Swapped | Way::Moved => None,
     };
     changed.map(|number| number.to_string())
+}
+
+/// Two numbers with some of the first moved to the second: one unit, or any part of it.
+fn moved(random: &mut Random, from: &str, to: &str) -> Option<(String, String)> {
+    let (from, to): (u64, u64) = (from.parse().ok()?, to.parse().ok()?);
+    let amount = random.pick([1, 1, from]).min(random.between(0, from));
+    let less = from.checked_sub(amount)?;
+    Some((less.to_string(), to.checked_add(amount)?.to_string()))
 }
 
 /// Another digit in place of one; the first may become a leading zero.

@@ -23,8 +23,12 @@ pub struct Facts<'a> {
 
 /// Why the words allow a change, or nothing where they do not.
 pub fn allowed_by_words(facts: &Facts, change: &Change) -> Option<String> {
-    // An exchange changes two columns, and one of them always has no room.
-    let new = number(change.number.as_bytes()).filter(|_| change.way != Way::Swapped)?;
+    // These change two columns that stand beside each other, and one of any two such
+    // has no room.
+    if matches!(change.way, Way::Swapped | Way::Moved) {
+        return None;
+    }
+    let new = number(change.number.as_bytes())?;
     match change.column {
         "fuel" => facts.fuel_allowed(change.before, new),
         "call" => facts.call_allowed(change.before, new),

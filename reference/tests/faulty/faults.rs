@@ -39,6 +39,7 @@ pub enum Fault {
     FilterTurned,
     FusedFilter,
     NoReserve,
+    MaintainIgnored,
     CoverageRoundedDown,
     LiveAdded,
 }

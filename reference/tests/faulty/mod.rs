@@ -229,7 +229,7 @@ impl Run<'_> {
         };
         let reserve = match (self.fault, control.maintain) {
             (Fault::NoReserve, _) => 0,
-            (_, 0) => (spinning.max(coverage) - live).max(0),
+            (Fault::MaintainIgnored, _) | (_, 0) => (spinning.max(coverage) - live).max(0),
             _ => spinning.max((coverage - live).max(0)),
         };
         let rest = watts.load - watts.off - watts.solar;
