@@ -3,6 +3,7 @@
 use std::io::{self, BufRead, Write};
 
 use crate::hex;
+use crate::judge::answers;
 use crate::refusal::Refusal;
 use crate::run::write_run;
 use crate::samples::{self, Sample};
@@ -18,6 +19,10 @@ pub enum Kind {
     Sheets,
     Runs,
     Seconds,
+    /// Printed runs, for the judge of demand 3.
+    Judged,
+    Exercised,
+    Changed,
 }
 
 impl Kind {
@@ -28,6 +33,9 @@ impl Kind {
             "sheets" => Some(Kind::Sheets),
             "runs" => Some(Kind::Runs),
             "seconds" => Some(Kind::Seconds),
+            "judged" => Some(Kind::Judged),
+            "exercised" => Some(Kind::Exercised),
+            "changed" => Some(Kind::Changed),
             _ => None,
         }
     }
@@ -55,6 +63,9 @@ pub fn answer_line(kind: Kind, line: &str) -> Option<String> {
         Kind::Sheets => Some(rows(samples::read(&hex::read(line)?))),
         Kind::Runs => answer_run(line),
         Kind::Seconds => Some(text::answer(&text::read_case(line)?)),
+        Kind::Judged => answers::judged(line),
+        Kind::Exercised => answers::exercised(line),
+        Kind::Changed => answers::changed(line),
     }
 }
 

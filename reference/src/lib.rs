@@ -8,6 +8,7 @@ pub mod dispatch;
 pub mod fuel;
 pub mod generator;
 pub mod hex;
+pub mod judge;
 pub mod limits;
 pub mod lines;
 pub mod refusal;

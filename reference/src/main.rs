@@ -8,6 +8,7 @@ use std::os::unix::ffi::OsStrExt;
 use std::process::ExitCode;
 
 use reference::batch::{self, Kind};
+use reference::judge::{answers, judge};
 use reference::{run, samples, sizing, station_file, text};
 
 const USAGE: &str = "how to call it:
@@ -17,7 +18,9 @@ const USAGE: &str = "how to call it:
   reference share STATION MASK POWER SET
   reference rate STATION MASK POWER
   reference second            (one case on standard input)
-  reference batch KIND        (stations, samples, sheets, runs or seconds; cases on standard input)";
+  reference judge STATION SAMPLES SECONDS ROWS   (ROWS is what was printed, - for standard input)
+  reference batch KIND        (stations, samples, sheets, runs, seconds, judged, exercised or changed;
+                               cases on standard input)";
 
 fn main() -> ExitCode {
     let arguments: Vec<OsString> = std::env::args_os().skip(1).collect();
@@ -54,6 +57,9 @@ fn perform(arguments: &[OsString]) -> Result<(), String> {
             let (mask, power) = (number(mask)?, number(power)?);
             print(&batch::numbered(sizing::rate(&read(station)?, mask, power)))
         }
+        (b"judge", [station, samples, seconds, rows]) => {
+            judge_files(station, samples, seconds, rows)
+        }
         (b"second", []) => answer_second(),
         (b"batch", [kind]) => answer_batch(kind),
         _ => Err(USAGE.to_string()),
@@ -72,6 +78,29 @@ fn run_files(station: &OsStr, samples: &OsStr, seconds: &OsStr) -> Result<(), St
     run::write_run(&station, &samples, seconds.as_bytes(), &mut out)
         .and_then(|()| out.flush())
         .map_err(written)
+}
+
+/// The judge of demand 3, on what a run program printed.
+fn judge_files(
+    station: &OsStr,
+    samples: &OsStr,
+    seconds: &OsStr,
+    rows: &OsStr,
+) -> Result<(), String> {
+    let (station, samples) = (read(station)?, read(samples)?);
+    let rows = match rows.as_bytes() {
+        b"-" => read_input()?,
+        _ => read(rows)?,
+    };
+    let verdict = judge(&station, &samples, seconds.as_bytes(), &rows);
+    print(&answers::answer(&verdict))
+}
+
+fn read_input() -> Result<Vec<u8>, String> {
+    let mut input = Vec::new();
+    let read = io::stdin().read_to_end(&mut input);
+    read.map_err(|error| format!("standard input: {error}"))?;
+    Ok(input)
 }
 
 /// One case on standard input.

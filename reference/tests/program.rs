@@ -147,3 +147,31 @@ fn generated_cases_are_answered_line_by_line_and_alone() {
         }
     }
 }
+
+#[test]
+fn judge_reads_rows_from_a_file_and_from_standard_input() {
+    let station = written("judge.station", &file());
+    let samples = written("judge.csv", SAMPLES);
+    let rows = printed(&file(), SAMPLES, b"5");
+    let path = written("judge.rows", rows.as_bytes());
+    let call = [
+        "judge".as_ref(),
+        station.as_ref(),
+        samples.as_ref(),
+        "5".as_ref(),
+    ];
+    let from_file = called(&[&call[..], &[path.as_ref()]].concat());
+    assert_eq!(stdout(&from_file), "holds\n");
+    assert_eq!(from_file.status.code(), Some(0));
+    let texts: Vec<&str> = call
+        .iter()
+        .filter_map(|text: &&OsStr| text.to_str())
+        .collect();
+    let fed = |rows: &str| {
+        let program = env!("CARGO_BIN_EXE_reference");
+        fed(program, &[&texts[..], &["-"]].concat(), rows.as_bytes())
+    };
+    assert_eq!(fed(&rows), "holds\n");
+    assert_eq!(fed(&rows.replace("45843", "45844")), "broken,fuel,9\n");
+    assert_eq!(fed("refused,1,0\n"), "no rows\n");
+}

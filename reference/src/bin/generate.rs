@@ -7,7 +7,7 @@ use reference::batch::Kind;
 use reference::generator::write_cases;
 
 const USAGE: &str = "how to call it: generate KIND SEED COUNT
-  KIND is stations, samples, sheets, runs or seconds; SEED and COUNT are whole numbers";
+  KIND is stations, samples, sheets, runs, seconds or judged; SEED and COUNT are whole numbers";
 
 fn main() -> ExitCode {
     let arguments: Vec<_> = std::env::args_os().skip(1).collect();

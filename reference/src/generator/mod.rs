@@ -5,6 +5,7 @@ pub mod exact_rows;
 pub mod good_samples;
 pub mod good_stations;
 pub mod growing_sheet;
+pub mod judged_runs;
 pub mod random;
 pub mod record_damage;
 pub mod records;
@@ -42,6 +43,8 @@ pub fn case(kind: Kind, random: &mut Random, before: u64) -> String {
         Kind::Sheets => hex::write(&varied_sheets::file(random, before)),
         Kind::Runs => runs::case(random),
         Kind::Seconds => seconds::case(random),
+        // Runs that are still to be printed.
+        Kind::Judged | Kind::Exercised | Kind::Changed => judged_runs::case(random),
     }
 }
 

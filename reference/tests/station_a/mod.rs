@@ -134,3 +134,24 @@ pub fn column(row: &[u64], heading: &str) -> u64 {
     let index = headings.position(|name| name == heading);
     row[index.expect("a heading of the row")]
 }
+
+pub const FILTERED_SAMPLES: &str = "t,LoadP,PvAvailP,ShedLoadP
+0,84.662,0,0
+1,165.662,0,0
+";
+
+/// Station A with sets of 100,619 W and 100,000 W and a filter of 803. After 84,662 W a
+/// load of 165,662 W makes the exact setpoint 100,619 W, as a fused or a whole-number
+/// filter has it. By five operations, each rounded once, it is a little above.
+pub fn filtered() -> Station {
+    let mut station = station();
+    station.control.spinning_reserve = 0;
+    station.control.filter_k = 803;
+    station.control.start_mask = 3;
+    for (set, rating) in station.gensets.iter_mut().zip([100_619, 100_000]) {
+        set.rating = rating;
+        set.curve.iter_mut().for_each(|point| point.rate = 0);
+    }
+    station.masks[..3].copy_from_slice(&[1, 3, 2]);
+    station
+}
