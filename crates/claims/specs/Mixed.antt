@@ -6,7 +6,7 @@ use Rattle.rules.specs.declared.answers.Verdict.the-variants.{Accepted}
 use Rattle.rules.specs.declared.station.Station.{Station}
 use Rattle.rules.specs.declared.run.Inputs.{Inputs}
 use Rattle.rules.specs.declared.run.Run.{Run}
-use Rattle.rules.specs.Answers.{Answer, accepted, refused, verdictOf, outcomeOf}
+use Rattle.rules.specs.Answers.{Answer, accepted, refused, judged, verdictOf, outcomeOf}
 use Rattle.rules.specs.StationFile.{stationFile}
 use Rattle.rules.specs.Calls.{Call}
 use Rattle.station.specs.declared.reader.Reading.{Reading}
@@ -18,13 +18,25 @@ use Rattle.claims.specs.Demand3.{FromFile}
 
 -- ---- each call as a batch
 
--- a call of one second: accepted with the size of its row, or refused
-abbrev pub batchBy : Answer ℕ → Call → Batch
-batchBy (accepted size) c = record { inputs = c .inputs ∷ []; lent = c .lent; run = c .handed .run; seconds = 1; bytes = size; ended = accepted tt; left = c .left }
-batchBy (refused number place) c = record { inputs = c .inputs ∷ []; lent = c .lent; run = c .handed .run; seconds = 0; bytes = 0; ended = refused number place; left = c .left }
+-- a call of one second: one is accepted, with the size of its row, or none
+abbrev pub secondsIn : Answer ℕ → ℕ
+secondsIn (accepted size) = 1
+secondsIn (refused number place) = 0
+
+abbrev pub bytesIn : Answer ℕ → ℕ
+bytesIn (accepted size) = size
+bytesIn (refused number place) = 0
 
 abbrev pub oneOf : Call → Batch
-oneOf c = batchBy (outcomeOf (c .handed .answer)) c
+oneOf c = record {
+  inputs = c .inputs ∷ [];
+  lent = c .lent;
+  run = c .handed .run;
+  seconds = secondsIn (outcomeOf (c .handed .answer));
+  bytes = bytesIn (outcomeOf (c .handed .answer));
+  ended = judged (outcomeOf (c .handed .answer));
+  left = c .left;
+}
 
 -- a call of many: a second is asked for each place that all three slices have
 abbrev pub manyOf : ManyCall → Batch
