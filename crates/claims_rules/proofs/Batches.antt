@@ -23,8 +23,8 @@ use Rattle.rules.proofs.Start.{start-possible}
 use Rattle.laws.specs.Admitted.{Admitted}
 use Rattle.laws.proofs.Kept.{judged-is, admitted-of, record-kept}
 use Rattle.laws.proofs.RowLength.{row-length}
-use Rattle.claims_rules.specs.Shown.{Shown, shownIn, Worked}
-use Rattle.claims_rules.specs.Batches.{Batch, Came, cameOn, cameTo, askedBatch, Told, toldBatch, toldCame, ruledBatchesFrom, ruledBatches, rowsOf, rowsInBatches, KeptBatch, ChainedBatches, none, more, ClaimBatches}
+use Rattle.claims_rules.specs.Shown.{Shown, Worked, rowsOf}
+use Rattle.claims_rules.specs.Batches.{Batch, Came, cameOn, cameTo, askedBatch, Told, toldBatch, toldCame, ruledBatchesFrom, ruledBatches, rowsInBatches, KeptBatch, ChainedBatches, none, more, ClaimBatches}
 use Rattle.claims_rules.proofs.Seconds.{row-first, row-shown, workedAt}
 use Rattle.claims_rules.proofs.Lists as lists
 use Rattle.claims_rules.proofs.Lists.{Steps, workedOf}

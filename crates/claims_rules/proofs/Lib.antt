@@ -5,3 +5,4 @@ pub mod OverRows
 pub mod Calls
 pub mod Claim
 pub mod Batches
+pub mod Printed

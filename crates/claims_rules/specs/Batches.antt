@@ -14,7 +14,7 @@ use Rattle.rules.specs.Answers.{Answer, accepted, refused}
 use Rattle.rules.specs.Modes.{stateAt}
 use Rattle.rules.specs.RunRecord.{startRecord}
 use Rattle.rules.specs.Row.{rowText}
-use Rattle.claims_rules.specs.Shown.{shownIn, Worked}
+use Rattle.claims_rules.specs.Shown.{Worked, rowsOf}
 use Rattle.claims_rules.specs.Claim.{secondBy, OverRows, LastRecord}
 
 -- what a caller sees: the seconds asked and the buffer lent; the record handed back, how many seconds were accepted, how many bytes their
@@ -76,13 +76,6 @@ unfoldable pub ruledBatches : Station → List AskedBatch → List Told
 ruledBatches st asked = ruledBatchesFrom st (startRecord st) asked
 
 -- ---- the rows
-
--- the first n seconds, each with its line
-unfoldable pub rowsOf : List Inputs → ℕ → List (List ℕ) → List Worked
-rowsOf xs zero lines = []
-rowsOf [] (suc n) lines = []
-rowsOf (x ∷ xs) (suc n) [] = []
-rowsOf (x ∷ xs) (suc n) (line ∷ lines) = record { inputs = x; row = shownIn line } ∷ rowsOf xs n lines
 
 -- those of the accepted seconds, read back from each buffer's lines
 unfoldable pub rowsInBatches : List Batch → List Worked

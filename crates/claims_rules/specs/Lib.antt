@@ -5,3 +5,4 @@ pub mod InRow
 pub mod Burned
 pub mod Claim
 pub mod Batches
+pub mod Printed

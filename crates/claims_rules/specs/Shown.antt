@@ -1,5 +1,5 @@
 -- What the bytes of a row show: decimal numbers between commas. Nothing here knows how a row is written.
-use Prim.Native.Nat.{ℕ, _+_}
+use Prim.Native.Nat.{ℕ, zero, suc, _+_}
 use mathlib.Core.List.{List, [], _∷_, map}
 use lib.ListN.{getD}
 use Rattle.rules.specs.declared.run.Inputs.{Inputs}
@@ -54,6 +54,13 @@ shown text = shownIn (getD (parts LF text) 0 [])
 pub record Worked : Type 0 where
   pub inputs : Inputs
   pub row : Shown
+
+-- the first n of some seconds, each with its line
+unfoldable pub rowsOf : List Inputs → ℕ → List (List ℕ) → List Worked
+rowsOf xs zero lines = []
+rowsOf [] (suc n) lines = []
+rowsOf (x ∷ xs) (suc n) [] = []
+rowsOf (x ∷ xs) (suc n) (line ∷ lines) = record { inputs = x; row = shownIn line } ∷ rowsOf xs n lines
 
 -- a number of each second, summed
 unfoldable pub total : (Worked → ℕ) → List Worked → ℕ

@@ -1,0 +1,54 @@
+-- What a clerk holds in hand: the text that the run program prints for two accepted files and accepted SECONDS. Its rows are the lines
+-- after the heading, one for each second, and its sets' lines follow; demand 3 is said of the numbers on them.
+-- Definitions only; proofs/Printed.antt has the theorem.
+use Prim.Native.Nat.{ℕ, zero, suc, _+_, _<_}
+use mathlib.Core.Path.{_≡_}
+use mathlib.Core.List.{List, [], _∷_, _++_}
+use lib.ListN.{length, drop, getD}
+use Rattle.rules.specs.declared.station.Station.{Station}
+use Rattle.rules.specs.declared.samples.Sample.{Sample}
+use Rattle.rules.specs.declared.run.Inputs.{Inputs}
+use Rattle.rules.specs.Bytes.{LF, parts}
+use Rattle.rules.specs.SampleFile.{sampleAt}
+use Rattle.rules.specs.Row.{rowHeading, setHeading}
+use Rattle.rules.specs.Run.{inputsOf}
+use Rattle.claims_rules.specs.Shown.{numbersIn, Worked, rowsOf}
+use Rattle.claims_rules.specs.Claim.{OverRows}
+
+-- the lines of a text, and what stands after its last LF
+abbrev pub linesOf : List ℕ → List (List ℕ)
+linesOf text = parts LF text
+
+abbrev pub lineOf : List ℕ → ℕ → List ℕ
+lineOf text i = getD (linesOf text) i []
+
+-- what the sample file hands to n seconds from second t on: "A row holds until the next."
+unfoldable pub inputsFrom : List Sample → ℕ → ℕ → List Inputs
+inputsFrom samples t zero = []
+inputsFrom samples t (suc n) = inputsOf (sampleAt samples t) ∷ inputsFrom samples (suc t) n
+
+-- the rows of n seconds: the lines after the first
+unfoldable pub printedRows : List Sample → ℕ → List ℕ → List Worked
+printedRows samples n text = rowsOf (inputsFrom samples 0 n) n (drop 1 (linesOf text))
+
+-- the last row's store, and `store` where there is no row
+unfoldable pub storeAfter : ℕ → List Worked → ℕ
+storeAfter store [] = store
+storeAfter store (s ∷ ss) = storeAfter (s .row .store) ss
+
+-- the numbers of the set at place i, under "set,run,starts,stops,energy,fuel"
+abbrev pub setNumbers : ℕ → List ℕ → ℕ → List ℕ
+setNumbers n text i = numbersIn (lineOf text (n + 2 + i))
+
+abbrev pub fuelPrinted : ℕ → List ℕ → ℕ → ℕ
+fuelPrinted n text i = getD (setNumbers n text i) 5 0
+
+pub record Printed (st : Station) (samples : List Sample) (n : ℕ) (text : List ℕ) : Type 0 where
+  -- the heading, n rows, the sets' heading, a line for each set, and nothing after its LF
+  pub line-count : length (linesOf text) ≡ n + st .setcount + 3
+  pub heading : lineOf text 0 ++ (LF ∷ []) ≡ rowHeading
+  pub set-heading : lineOf text (n + 1) ++ (LF ∷ []) ≡ setHeading
+  pub set-numbered : (i : ℕ) → i < st .setcount → getD (setNumbers n text i) 0 0 ≡ suc i
+  pub nothing-after : lineOf text (n + 2 + st .setcount) ≡ []
+  -- demand 3, of the text's own numbers
+  pub over-rows : OverRows st (printedRows samples n text) (storeAfter (st .battery .start) (printedRows samples n text)) (fuelPrinted n text)
