@@ -90,7 +90,7 @@ module _ (st : Station) (given : someFileGives st ≡ true) (tables : Tables st)
     pub kept : Chained Kept r cs last
 
   module _ (r last : Run) (c : Call) (cs : List Call) (was-possible : possible st r ≡ true) (o : Owes st r c) where
-    abbrev answer : Answer Step
+    abbrev pub answer : Answer Step
     answer = secondBy st r (asked c)
 
     answer-is : second st r (c .inputs) (length (c .lent)) ≡ answer
@@ -99,13 +99,13 @@ module _ (st : Station) (given : someFileGives st ≡ true) (tables : Tables st)
     answers : outcomeOf (c .handed .answer) ≡ lengthAnswered answer
     answers = o .answers ∙ ap lengthAnswered answer-is
 
-    hands : c .handed .run ≡ recordHanded r answer
+    pub hands : c .handed .run ≡ recordHanded r answer
     hands = o .hands ∙ ap (recordHanded r) answer-is
 
     leaves : c .left ≡ bufferLeft (c .lent) answer
     leaves = o .leaves ∙ ap (bufferLeft (c .lent)) answer-is
 
-    told-here : told c ≡ rowBy answer
+    pub told-here : told c ≡ rowBy answer
     told-here = ap (λ (a : Answer ℕ). toldBy a (c .left)) answers ∙ ap (toldBy (lengthAnswered answer)) leaves ∙ told-is answer (c .lent)
 
     one-more : step st r (c .inputs) .run .done ≡ r .done + 1

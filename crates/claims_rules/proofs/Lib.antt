@@ -6,3 +6,4 @@ pub mod Calls
 pub mod Claim
 pub mod Batches
 pub mod Printed
+pub mod PrintedCalls

@@ -133,7 +133,7 @@ module _ (st : Station) (given : someFileGives st ≡ true) (tables : Tables st)
     text : parts LF (rowsFrom st samples n r) ≡ lines ++ parts LF (setHeading ++ setLines 0 (take (st .setcount) (last .sets)))
     shows : (rest : List (List ℕ)) → rowsOf (inputsFrom samples t n) n (lines ++ rest) ≡ workedOf st r (inputsFrom samples t n)
 
-  admitted-at : (t : ℕ) (r : Run) → possible st r ≡ true → r .done ≡ t → t < mostSeconds → Admitted st r (inputsOf (sampleAt samples t))
+  pub admitted-at : (t : ℕ) (r : Run) → possible st r ≡ true → r .done ≡ t → t < mostSeconds → Admitted st r (inputsOf (sampleAt samples t))
   admitted-at t r h e l =
       let right = sample-right file samples read t in
       record {
@@ -146,11 +146,11 @@ module _ (st : Station) (given : someFileGives st ≡ true) (tables : Tables st)
         sheddable-load = right .agrees;
       }
 
-  kept-on : (r : Run) (x : Inputs) → Admitted st r x → possible st (step st r x .run) ≡ true
+  pub kept-on : (r : Run) (x : Inputs) → Admitted st r x → possible st (step st r x .run) ≡ true
   unfolding step
   kept-on r x h = record-kept st tables r x h
 
-  done-is : (r : Run) (x : Inputs) → step st r x .run .done ≡ r .done + 1
+  pub done-is : (r : Run) (x : Inputs) → step st r x .run .done ≡ r .done + 1
   unfolding step recordAfter
   done-is r x = refl
 
@@ -272,14 +272,14 @@ module _ (st : Station) (given : someFileGives st ≡ true) (tables : Tables st)
 
 -- ---- the theorem
 
-asked-most : (s : List ℕ) (n : ℕ) → secondsAsked s ≡ accepted n → n ≤ mostSeconds
+pub asked-most : (s : List ℕ) (n : ℕ) → secondsAsked s ≡ accepted n → n ≤ mostSeconds
 unfolding secondsAsked
 asked-most s n h =
     let p = passed (digits 9 s) 18 0 (need (leb (value s) mostSeconds) 23 0 >> accepted (value s)) n h in
     let q = passed (leb (value s) mostSeconds) 23 0 (accepted (value s)) n (p .1) in
     subst (λ (k : ℕ). k ≤ mostSeconds) (same-value (value s) n (q .1)) (leb-true (value s) mostSeconds (q .0))
 
-text-is : (station samples seconds : List ℕ) (st : Station) (rows : List Sample) (n : ℕ) → stationFile station ≡ accepted st → sampleFile samples ≡ accepted rows → secondsAsked seconds ≡ accepted n
+pub text-is : (station samples seconds : List ℕ) (st : Station) (rows : List Sample) (n : ℕ) → stationFile station ≡ accepted st → sampleFile samples ≡ accepted rows → secondsAsked seconds ≡ accepted n
     → printed station samples seconds ≡ rowHeading ++ rowsFrom st rows n (startRecord st)
 unfolding printed runOf
 text-is station samples seconds st rows n a b c = rw (a, b, c)
