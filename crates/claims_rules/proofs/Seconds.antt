@@ -20,7 +20,7 @@ use Rattle.rules.specs.Numbers.{if_then_else_, has, tab}
 use Rattle.rules.specs.Bytes.{LF, parts, commaLine}
 use Rattle.rules.specs.StationRecord.{setAt}
 use Rattle.rules.specs.Share.{share}
-use Rattle.rules.specs.Modes.{stateAt, ticked, onMask}
+use Rattle.rules.specs.Modes.{stateAt, isOn, ticked, onMask}
 use Rattle.rules.specs.Flows.{shedNow, solarOnLoad, wattsWith, wattsFor}
 use Rattle.rules.specs.Configuration.{maskCalled}
 use Rattle.rules.specs.Serving.{Serves}
@@ -29,7 +29,7 @@ use Rattle.rules.specs.Row.{columns, rowText}
 use Rattle.rules.specs.Second.{statesNow, onNow, capNow, floorNow, wattsNow, storeNow, ranNow, heldNow, callNow, commandedNow, recordAfter, rowAfter, step}
 use Rattle.rules.proofs.Tests.{never, all-at, within-fact}
 use Rattle.rules.proofs.Counts.{served, ran-mode, ran-clock, clock-after}
-use Rattle.rules.proofs.Masks.{mask-below}
+use Rattle.rules.proofs.Masks.{mask-below, mask-has}
 use Rattle.rules.proofs.ReadBack.{lineOf, line-first, line-numbers}
 use Rattle.rules.proofs.Serving.{modeOf, clockOf, serves-by, serves-told, serves-means}
 use Rattle.rules.proofs.Shapes.{Tables}
@@ -178,7 +178,7 @@ module _ (st : Station) (tables : Tables st) (r : Run) (x : Inputs) (h : Admitte
   unfolding callNow
   called-serves zero s = absurd s
   called-serves (suc j) s =
-      let m = serves-means st (h .station-given) tables ran (heldNow st r x w) j s in
+      let m = serves-means st (h .station-given) tables ran (heldNow st r x w) (suc j) s in
       serves-told st (h .station-given) tables ran (heldNow st r x w) (callNow st r x w) call-inside
       (chosen-covers st tables (right .configcount .1) ran (heldNow st r x w) (r .called) (r .since) (r .done) j (m .0) (m .1))
 
@@ -190,9 +190,10 @@ module _ (st : Station) (tables : Tables st) (r : Run) (x : Inputs) (h : Admitte
       (serves-by st (h .station-given) tables (modeIn st (replayOf r)) (modeOf ran) (clockIn st (replayOf r) (workedAt st r x)) (clockOf ran) (λ i l. sym (mode-is i l)) (clock-is st r x) (heldNow st r x w) j s))
 
   pub in-row : InRow st (replayOf r) (workedAt st r x)
-  unfolding workedAt step rowAfter modesIn heldIn onNow statesNow heldNow
+  unfolding workedAt step rowAfter modesIn heldIn onNow statesNow heldNow onMask
   in-row = record {
-    mask-followed = refl;
+    on-line = λ i l. mask-has (λ j. isOn (modeIn st (replayOf r) j)) 8 i l;
+    on-few = mask-below 8 (λ j. isOn (modeIn st (replayOf r) j));
     store-least = after-within .0;
     store-most = after-within .1;
     unserved = all-serving;

@@ -7,10 +7,10 @@ use Rattle.rules.specs.declared.station.Station.{Station}
 use Rattle.rules.specs.Numbers.{has}
 use Rattle.rules.specs.StationRecord.{setAt}
 use Rattle.rules.specs.Share.{share}
-use Rattle.rules.specs.Modes.{onMask}
+use Rattle.rules.specs.Modes.{isOn}
 use Rattle.rules.specs.Serving.{Serves}
 use Rattle.claims_rules.specs.Shown.{Shown, Worked}
-use Rattle.claims_rules.specs.Replay.{Replay, modesIn, modeIn, clockIn, heldIn, Replayed}
+use Rattle.claims_rules.specs.Replay.{Replay, modeIn, clockIn, heldIn, Replayed}
 
 -- "every set on line is at its rating, no solar is spilled or charged, and the battery gives all that its rating and content
 -- allow": "The battery allows min(power, (store - least) / 100) of the store a row earlier"
@@ -21,8 +21,9 @@ pub record AllServing (st : Station) (before : ℕ) (row : Shown) : Type 0 where
   pub battery-full : row .give ≡ min (st .battery .power) ((before - st .battery .least) / 100)
 
 pub record InRow (st : Station) (p : Replay) (s : Worked) : Type 0 where
-  -- "A set is on line and runs where the row's mask has it": the sets that are On in the replay
-  pub mask-followed : s .row .on ≡ onMask (modesIn st p)
+  -- "A set is on line and runs where the row's mask has it": just the sets that are On in the replay
+  pub on-line : (i : ℕ) → i < 8 → has (s .row .on) i ≡ isOn (modeIn st p i)
+  pub on-few : s .row .on < 256
   -- "It is within its two limits in each row."
   pub store-least : st .battery .least ≤ s .row .store
   pub store-most : s .row .store ≤ st .battery .most

@@ -13,3 +13,4 @@ pub mod QuietEnds
 pub mod Going
 pub mod Walking
 pub mod Alone
+pub mod AskNothing

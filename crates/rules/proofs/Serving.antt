@@ -175,10 +175,11 @@ module _ (st : Station) (given : someFileGives st ≡ true) (tables : Tables st)
 
   -- ---- and back
 
-  pub serves-means : (held : Float) (j : ℕ) → Serves st (modeOf states) (clockOf states) held (suc j)
-      → (j < st .configcount) × (usableCovering (st .sets) states held (maskCalled (st .configs) (suc j)) ≡ true)
+  pub serves-means : (held : Float) (call : ℕ) → Serves st (modeOf states) (clockOf states) held call
+      → (call ≤ st .configcount) × (usableCovering (st .sets) states held (maskCalled (st .configs) call) ≡ true)
   unfolding usableCovering maskCalled usable covers
-  serves-means held j s =
+  serves-means held zero s = absurd s
+  serves-means held (suc j) s =
       let mask : ℕ = getD (st .configs) j 0 in
       let r = both (ltb 0 mask) (existingOnly (st .setcount) mask) (mask-right st given tables j (s .0)) in
       let each : (i : ℕ) → i < 8 → free mask i ≡ true = λ i k. not-barring (has mask i) _ _ (λ e. (
