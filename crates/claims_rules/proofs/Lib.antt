@@ -7,3 +7,4 @@ pub mod Claim
 pub mod Batches
 pub mod Printed
 pub mod PrintedCalls
+pub mod StationA
