@@ -73,8 +73,9 @@ def printed_by(run, case):
     put(STATION, case.station)
     put(SAMPLES, case.samples)
     try:
-        got = subprocess.run(run + [STATION, SAMPLES, case.seconds], stdin=subprocess.DEVNULL, stdout=subprocess.PIPE, timeout=LONGEST,
-                             env={'LC_ALL': 'C'}, close_fds=False)
+        # what is said about a refusal is tested elsewhere
+        got = subprocess.run(run + [STATION, SAMPLES, case.seconds], stdin=subprocess.DEVNULL, stdout=subprocess.PIPE,
+                             stderr=subprocess.DEVNULL, timeout=LONGEST, env={'LC_ALL': 'C'}, close_fds=False)
     except subprocess.TimeoutExpired:
         fail('%s: %s has not ended after %d s' % (case.name, run[0], LONGEST))
     if got.returncode != 0:

@@ -8,34 +8,29 @@ use native.Mathlib.Omega.{arith}
 use native.Mathlib.Nat.{add-zero}
 use lib.ListN.{length, drop, length-append}
 use denote.Ref.{now}
-use Rattle.rules.specs.declared.answers.Outcome.{Outcome}
-use Rattle.rules.specs.declared.answers.Outcome.the-variants.{Row, Refused}
-use Rattle.rules.specs.declared.answers.Verdict.{Verdict}
 use Rattle.rules.specs.declared.answers.Verdict.the-variants.{Accepted}
 use Rattle.rules.specs.declared.station.Station.{Station}
 use Rattle.rules.specs.declared.run.Inputs.{Inputs}
 use Rattle.rules.specs.declared.run.Run.{Run}
 use Rattle.rules.specs.declared.run.Step.{Step}
-use Rattle.rules.specs.Answers.{Answer, accepted, refused, refusalOf, _>>_, judged, verdictOf, outcomeOf}
+use Rattle.rules.specs.Answers.{Answer, accepted, refused, judged, outcomeOf}
 use Rattle.rules.specs.StationRecord.{someFileGives}
-use Rattle.rules.specs.StationFile.{stationFile}
-use Rattle.rules.specs.RunRecord.{startRecord, start, possible}
+use Rattle.rules.specs.RunRecord.{startRecord, possible}
 use Rattle.rules.specs.Row.{rowText}
-use Rattle.rules.specs.Second.{step, admitted, second, lengthAnswered, recordHanded, bufferLeft}
+use Rattle.rules.specs.Second.{second, lengthAnswered, recordHanded, bufferLeft}
 use Rattle.rules.specs.Calls.{Call}
 use Rattle.rules.proofs.Shapes.{Tables}
 use Rattle.rules.proofs.Start.{start-possible}
-use Rattle.laws.proofs.Kept.{judged-is, admitted-of, second-kept}
+use Rattle.laws.proofs.Kept.{judged-is, second-kept}
 use Rattle.station.specs.declared.reader.Reading.{Reading}
 use Rattle.records.specs.declared.start.Started.{Started}
-use Rattle.dispatch.specs.declared.seconds.Worked.{Worked}
 use Rattle.dispatch.specs.Seconds.{inputsOf, Calls, onward, callsFrom, callsOf, SecondsWorked}
 use Rattle.claims_rules.specs.Claim.{Asked, secondBy}
 use Rattle.claims_rules.specs.Batches as batches
 use Rattle.claims_rules.specs.Batches.{Batch, Came, cameOn, cameTo, ChainedBatches, ClaimBatches}
 use Rattle.claims_rules.proofs.Calls.{Owes}
 use Rattle.claims_rules.proofs.Batches.{OwesBatch, OwesAsRuled, possible-on, claim-batches}
-use Rattle.claims.specs.Functions.{ReadBy, StartedBy, CalledBy, ManyCall, ManyBy}
+use Rattle.claims.specs.Functions.{ReadBy, StartedBy, ManyCall, ManyBy}
 use Rattle.claims.specs.Demand3.{FromFile}
 use Rattle.claims.specs.Mixed.{secondsIn, bytesIn, oneOf, manyOf, Mixed, none, one, many, MixedDemand3}
 use Rattle.claims.proofs.AskNothing.{ask-nothing}

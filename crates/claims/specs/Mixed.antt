@@ -1,7 +1,7 @@
 -- DEMAND 3 of lists in which calls of one second and calls of many are mixed. Definitions only; proofs/Mixed.antt has the theorem.
 use Prim.Native.Nat.{ℕ}
 use mathlib.Core.Path.{_≡_}
-use mathlib.Core.List.{List, [], _∷_, map}
+use mathlib.Core.List.{List, [], _∷_}
 use Rattle.rules.specs.declared.answers.Verdict.the-variants.{Accepted}
 use Rattle.rules.specs.declared.station.Station.{Station}
 use Rattle.rules.specs.declared.run.Inputs.{Inputs}

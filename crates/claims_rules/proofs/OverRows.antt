@@ -27,7 +27,7 @@ use Rattle.rules.proofs.Tables.{tab-at}
 use Rattle.laws.proofs.Fuel.{scale-some, sum-below, sum-above}
 use Rattle.laws.proofs.StationAt.{set-at}
 use Rattle.claims_rules.specs.Shown.{Worked, total}
-use Rattle.claims_rules.specs.Replay.{Replay, replayOf, followedTo, atFirst, Replayed, replayed}
+use Rattle.claims_rules.specs.Replay.{Replay, replayOf, followedTo, atFirst, replayed}
 use Rattle.claims_rules.specs.Burned.{powersOf, Exact, sumOf, Burned}
 use Rattle.claims_rules.specs.Claim.{OverRows, totalsOf, LastRecord}
 use Rattle.claims_rules.proofs.Seconds.{workedAt}

@@ -1,14 +1,13 @@
 -- DEMAND 3 OF THE PRINTED TEXT, for every pair of accepted files and every accepted SECONDS. Assumes nothing.
 use Prim.Native.Nat.{ℕ, zero, suc, _+_, _≤_, _<_, min}
 use mathlib.Core.Path.{_≡_, refl, sym, ap, _∙_, subst}
-use mathlib.Core.Bool.{Bool, true}
-use mathlib.Core.List.{List, [], _∷_, _++_, append-assoc}
+use mathlib.Core.Bool.{true}
+use mathlib.Core.List.{List, [], _∷_, _++_}
 use native.Mathlib.Omega.{arith}
 use native.Mathlib.Nat.{add-zero, not-suc-le-zero}
-use native.Mathlib.Numerals.{add-one}
 use lib.Dec.{leb}
 use lib.ListN.{length, take, drop, getD, length-append, length-take}
-use lib.Seq.{getD-append-add, getD-append-seam, getD-take}
+use lib.Seq.{getD-append-add, getD-take}
 use borrow.Author.Tests.{leb-true}
 use Rattle.rules.specs.declared.station.Station.{Station}
 use Rattle.rules.specs.declared.samples.Sample.{Sample}
@@ -19,7 +18,7 @@ use Rattle.rules.specs.declared.run.SetState.{SetState}
 use Rattle.rules.specs.declared.run.Step.{Step}
 use Rattle.rules.specs.Numbers.{if_then_else_, has, every}
 use Rattle.rules.specs.Bytes.{LF, bytes, digits, value, parts}
-use Rattle.rules.specs.Answers.{accepted, need, _>>_, _>>=_}
+use Rattle.rules.specs.Answers.{accepted, need, _>>_}
 use Rattle.rules.specs.StationRecord.{setAt, someFileGives}
 use Rattle.rules.specs.StationFile.{stationFile}
 use Rattle.rules.specs.SampleFile.{sampleFile, sampleAt}
@@ -30,7 +29,6 @@ use Rattle.rules.specs.Commands.{commandedAll}
 use Rattle.rules.specs.Second.{commandedNow, recordAfter, rowAfter, step}
 use Rattle.rules.specs.Run.{secondsAsked, inputsOf, rowsFrom, runOf, printed}
 use Rattle.rules.proofs.Checks.{passed, same-value}
-use Rattle.rules.proofs.Parts.{without}
 use Rattle.rules.proofs.ReadBack as back
 use Rattle.rules.proofs.ReadBack.{part-ended, line-first, line-numbers}
 use Rattle.rules.proofs.SampleRows.{sample-right}
@@ -228,7 +226,7 @@ module _ (st : Station) (given : someFileGives st ≡ true) (tables : Tables st)
     count-lines =
         ap length lines-are
         ∙ (let e : suc (length (whole .lines ++ after)) ≡ n + st .setcount + 3
-            = omega (arith, length-append (whole .lines) after, length-append (setLineList 0 sets) ([] ∷ []), whole .count, sets-count 0 sets, sets-length) in e)
+        = omega (arith, length-append (whole .lines) after, length-append (setLineList 0 sets) ([] ∷ []), whole .count, sets-count 0 sets, sets-length) in e)
 
     nothing : lineOf text (n + 2 + st .setcount) ≡ []
     nothing =

@@ -1,24 +1,21 @@
 -- One accepted second: its row's numbers, the replay through it, and what demand 3 says of the row. Assumes nothing.
 use Prim.Native.Nat.{ℕ, zero, suc, _+_, _-_, _*_, _≤_, _<_}
-use mathlib.Core.Path.{_≡_, refl, sym, ap, _∙_, subst}
+use mathlib.Core.Path.{_≡_, sym, ap, _∙_}
 use mathlib.Core.Bool.{Bool, true}
 use mathlib.Core.List.{List, [], _∷_, _++_, append-nil}
 use native.Mathlib.Omega.{arith}
 use native.Mathlib.Decide.{decLt}
-use lib.Ieee.{Float}
 use lib.ListN.{length, getD, drop}
 use lib.Seq.{ext-getD}
 use borrow.Author.Tests.{leb-true}
 use Rattle.rules.specs.declared.station.Station.{Station}
 use Rattle.rules.specs.declared.run.Inputs.{Inputs}
-use Rattle.rules.specs.declared.run.Mode.{Mode}
 use Rattle.rules.specs.declared.run.Row.{Row}
 use Rattle.rules.specs.declared.run.Run.{Run}
 use Rattle.rules.specs.declared.run.SetState.{SetState}
 use Rattle.rules.specs.declared.run.Watts.{Watts}
 use Rattle.rules.specs.Numbers.{if_then_else_, has, tab}
-use Rattle.rules.specs.Bytes.{LF, parts, commaLine}
-use Rattle.rules.specs.StationRecord.{setAt}
+use Rattle.rules.specs.Bytes.{LF, parts}
 use Rattle.rules.specs.Share.{share}
 use Rattle.rules.specs.Modes.{stateAt, isOn, ticked, onMask}
 use Rattle.rules.specs.Flows.{shedNow, solarOnLoad, wattsWith, wattsFor}
@@ -40,8 +37,8 @@ use Rattle.laws.proofs.AtRating.{share-full}
 use Rattle.laws.proofs.Balance as balance
 use Rattle.laws.proofs.Called.{chosen-covers}
 use Rattle.laws.proofs.Kept.{record-kept}
-use Rattle.claims_rules.specs.Shown.{numbersIn, inColumns, Shown, shownIn, shown, Worked}
-use Rattle.claims_rules.specs.Replay.{Replay, replayOf, modesIn, modeIn, servedIn, clocksIn, clockIn, countsIn, heldIn, following}
+use Rattle.claims_rules.specs.Shown.{numbersIn, inColumns, shownIn, shown, Worked}
+use Rattle.claims_rules.specs.Replay.{replayOf, modesIn, modeIn, servedIn, clocksIn, clockIn, countsIn, heldIn, following}
 use Rattle.claims_rules.specs.InRow.{AllServing, InRow}
 
 -- ---- what is read back from a row's bytes is what was written
@@ -86,8 +83,8 @@ clocks-follow st r x =
     let after : ℕ → ℕ = λ i. stateAt (step st r x .run .sets) i .clock in
     let size : length (clocksIn st (replayOf r) (workedAt st r x)) ≡ 8 = length-tab _ 8 in
     ext-getD 0 (clocksIn st (replayOf r) (workedAt st r x)) (tab 8 after) (size ∙ sym (length-tab after 8)) (λ i k.
-        let l : i < 8 = omega (arith, size) in
-        clock-is st r x i l ∙ sym (clock-after (st .sets) (r .sets) (wattsNow st r x .diesel) (maskCalled (st .configs) (callNow st r x (wattsNow st r x))) i l) ∙ sym (tab-at after 8 i 0 l))
+    let l : i < 8 = omega (arith, size) in
+    clock-is st r x i l ∙ sym (clock-after (st .sets) (r .sets) (wattsNow st r x .diesel) (maskCalled (st .configs) (callNow st r x (wattsNow st r x))) i l) ∙ sym (tab-at after 8 i 0 l))
 
 -- the replay goes on as the record does
 pub follows : (st : Station) (r : Run) (x : Inputs) → following st (replayOf r) (workedAt st r x) ≡ replayOf (step st r x .run)

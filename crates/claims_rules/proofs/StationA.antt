@@ -2,7 +2,7 @@
 -- give from the start where calls are refused between the rows. Assumes nothing.
 use Prim.Native.Nat.{ℕ}
 use mathlib.Core.Path.{_≡_, refl}
-use mathlib.Core.List.{List, [], _∷_, map}
+use mathlib.Core.List.{List, [], _∷_}
 use lib.Count
 use lib.Ieee
 use Rattle.rules.specs.Bytes

@@ -1,7 +1,7 @@
 -- The claim of lists in which calls of one second and calls of many seconds are mixed: each is a batch, of one second or of many, worked
 -- one after the other up to the first that is refused, with the rows one after the other in one lent buffer.
 -- Definitions only; proofs/Batches.antt has the theorem, of batches that each owe what the rules say.
-use Prim.Native.Nat.{ℕ, zero, suc, _+_, _-_, _≤_}
+use Prim.Native.Nat.{ℕ, suc, _+_, _-_, _≤_}
 use mathlib.Core.Path.{_≡_}
 use mathlib.Core.List.{List, [], _∷_, _++_, map}
 use lib.ListN.{length, take, drop}

@@ -18,7 +18,7 @@ use Rattle.rules.specs.Row.{rowText}
 use Rattle.rules.specs.Second.{step, admitted, recordHanded}
 use Rattle.rules.specs.Calls.{Call, Chained}
 use Rattle.claims_rules.specs.Shown.{Worked, shown, total}
-use Rattle.claims_rules.specs.Replay.{replayOf, followedTo, atFirst, Replayed, replayed}
+use Rattle.claims_rules.specs.Replay.{replayOf, followedTo, atFirst, replayed}
 use Rattle.claims_rules.specs.InRow.{InRows}
 use Rattle.claims_rules.specs.Burned.{powersOf, Burned}
 

@@ -1,7 +1,7 @@
 -- What a call of a second owes, by what refuses it, or by the row that it wrote. Assumes nothing.
 use Prim.Native.Nat.{ℕ, _≤_, _<_}
-use mathlib.Core.Path.{_≡_, refl, sym, ap, _∙_}
-use mathlib.Core.Bool.{Bool, true, false}
+use mathlib.Core.Path.{_≡_, sym, ap, _∙_}
+use mathlib.Core.Bool.{true, false}
 use mathlib.Core.List.{List, _++_}
 use lib.Dec.{leb, ltb}
 use lib.ListN.{length, drop}
@@ -15,7 +15,7 @@ use Rattle.rules.specs.declared.station.Station.{Station}
 use Rattle.rules.specs.declared.run.Inputs.{Inputs}
 use Rattle.rules.specs.declared.run.Run.{Run}
 use Rattle.rules.specs.declared.run.Step.{Step}
-use Rattle.rules.specs.Answers.{Answer, accepted, refused, need, _>>_, refusalOf, verdictOf, outcomeOf}
+use Rattle.rules.specs.Answers.{Answer, accepted, refused, refusalOf, verdictOf, outcomeOf}
 use Rattle.rules.specs.StationRecord.{someFileGives}
 use Rattle.rules.specs.RunRecord.{mostSeconds, possible}
 use Rattle.rules.specs.Row.{rowText}

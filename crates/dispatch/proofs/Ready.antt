@@ -8,18 +8,16 @@ use native.Mathlib.Omega.{arith}
 use native.Mathlib.Nat.{mul-le-mul, mul-le-mul-left, le-trans}
 use lib.Dec.{leb, ltb, eqb}
 use lib.ListN.{length, getD}
-use borrow.Author.Tests.{leb-true, ltb-true, ltb-false, eqb-true}
+use borrow.Author.Tests.{leb-true, ltb-true, eqb-true}
 use Rattle.rules.specs.declared.station.Control.{Control}
 use Rattle.rules.specs.declared.station.GenSet.{GenSet}
 use Rattle.rules.specs.declared.station.Station.{Station}
-use Rattle.rules.specs.declared.run.Mode.{Mode}
 use Rattle.rules.specs.declared.run.Mode.the-variants.{Off}
 use Rattle.rules.specs.declared.run.SetState.{SetState}
 use Rattle.rules.specs.declared.run.Inputs.{Inputs}
 use Rattle.rules.specs.declared.run.Run.{Run}
-use Rattle.rules.specs.declared.run.Totals.{Totals}
 use Rattle.rules.specs.declared.run.Watts.{Watts}
-use Rattle.rules.specs.Numbers.{if_then_else_, has, all, every, allZero}
+use Rattle.rules.specs.Numbers.{has, every, allZero}
 use Rattle.rules.specs.StationRecord.{setAt, setRight, pairsRight, someFileGives}
 use Rattle.rules.specs.Share.{capacity, share}
 use Rattle.rules.specs.Modes.{fresh, stateAt, isOff, isOn, tickFrom, tick, ticked, onMask}
@@ -41,7 +39,7 @@ use Rattle.laws.proofs.KeptSets.{Within, from-rules, tick-counts, off-only}
 use Rattle.gensets.proofs.FileCapacity.{rating-most, capacity-most}
 use Rattle.commitment.specs.Choice.{capacities, Rated}
 use Rattle.dispatch.specs.CurveTable.{InRule, Fillable}
-use Rattle.dispatch.specs.Sized.{Small, CountableAll, Wantable, Switchable, SwitchableAll, SmallTotals}
+use Rattle.dispatch.specs.Sized.{Small, CountableAll, Wantable, SwitchableAll, SmallTotals}
 
 -- ---- the counts of a set, by the seconds done
 

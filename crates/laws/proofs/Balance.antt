@@ -10,7 +10,7 @@ use Rattle.rules.specs.declared.station.Station.{Station}
 use Rattle.rules.specs.declared.run.Inputs.{Inputs}
 use Rattle.rules.specs.declared.run.Watts.{Watts}
 use Rattle.rules.specs.Share.{capacity}
-use Rattle.rules.specs.Flows.{percent, floorLoad, shedNow, solarOnLoad, batteryGives, batteryTakes, storeAfter, dieselFor, wattsWith, wattsFor}
+use Rattle.rules.specs.Flows.{floorLoad, shedNow, solarOnLoad, batteryGives, batteryTakes, storeAfter, dieselFor, wattsWith, wattsFor}
 
 -- ---- each step's bounds
 

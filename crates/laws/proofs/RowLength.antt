@@ -1,9 +1,8 @@
 -- "row buffer under 256 bytes" is refused, and no row needs as many: the row of an admitted second has at most 153. Assumes nothing.
 use Prim.Native.Nat.{ℕ, _+_, _*_, _^_, _≤_, _<_}
-use mathlib.Core.Path.{_≡_}
 use mathlib.Core.List.{List, [], _∷_, _++_}
 use native.Mathlib.Omega.{arith}
-use lib.Count.{ones, ones-le}
+use lib.Count.{ones-le}
 use lib.ListN.{length, take, getD, length-append}
 use borrow.Author.Tests.{leb-true}
 use Rattle.rules.specs.declared.station.Station.{Station}

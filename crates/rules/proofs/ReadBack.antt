@@ -8,7 +8,7 @@ use lib.Dec.{leb, ltb, eqb}
 use borrow.Author.Tests.{leb-true, le-leb, eq-eqb, ne-eqb}
 use Rattle.rules.specs.Numbers.{if_then_else_, every}
 use Rattle.rules.specs.Bytes.{LF, comma, digitsIn, decimal, commaLine, value, parts}
-use Rattle.rules.proofs.Tests.{both, and-true, every-append}
+use Rattle.rules.proofs.Tests.{both, every-append}
 use Rattle.rules.proofs.Parts.{without}
 use Rattle.rules.proofs.Decimals.{decimal-value}
 

@@ -12,7 +12,7 @@ use Rattle.rules.specs.declared.samples.Sample.{Sample}
 use Rattle.rules.specs.Numbers.{if_then_else_, tab}
 use Rattle.rules.specs.Bytes.{point, digits, value, parts}
 use Rattle.rules.specs.Lines.{Line, lines, cellsOf}
-use Rattle.rules.specs.Answers.{Answer, accepted, refused, need, _>>=_, _>>_}
+use Rattle.rules.specs.Answers.{Answer, accepted, need, _>>=_, _>>_}
 use Rattle.rules.specs.SampleFile.{sampleSheet, limited, timeCell, powerForm, powerValue, powerCell, cell, cellValues, valueUnder, agreeing, rowValues, timeIn, laterRows, rowsAfter, headingLine, sheetLines, sampleOf, sampleFile, holding, beforeAll, sampleAt}
 use Rattle.rules.proofs.Checks.{not-accepted, passed, bound, same-value}
 

@@ -1,8 +1,8 @@
 -- Document 01, step 10: the rules' test of a configuration is what the words of specs/Serving.antt say, both ways, of a station that some
 -- file gives. Assumes nothing.
-use Prim.Native.Nat.{ℕ, zero, suc, _+_, _^_, _≤_, _<_}
+use Prim.Native.Nat.{ℕ, zero, suc, _+_, _≤_, _<_}
 use mathlib.Core.Path.{_≡_, refl, sym, ap, subst, _∙_}
-use mathlib.Core.Bool.{Bool, true, false, not, _&&_, _||_}
+use mathlib.Core.Bool.{Bool, true, false, not, _||_}
 use mathlib.Core.List.{List, [], _∷_}
 use native.Mathlib.Omega.{arith}
 use native.Mathlib.Decide.{decLt}
@@ -18,13 +18,13 @@ use Rattle.rules.specs.declared.run.Mode.{Mode}
 use Rattle.rules.specs.declared.run.Mode.the-variants.{Off, Warming, On, Cooling, Service}
 use Rattle.rules.specs.declared.run.SetState.{SetState}
 use Rattle.rules.specs.Numbers.{if_then_else_, has, existingOnly, sumTo, allTo}
-use Rattle.rules.specs.Answers.{accepted, need, _>>_}
+use Rattle.rules.specs.Answers.{accepted}
 use Rattle.rules.specs.StationRecord.{setAt, configurationRight, configurationsRight, someFileGives}
 use Rattle.rules.specs.Share.{runningTotal, capacity}
 use Rattle.rules.specs.Modes.{stateAt, due, inService}
-use Rattle.rules.specs.Setpoint.{float, covers}
+use Rattle.rules.specs.Setpoint.{covers}
 use Rattle.rules.specs.Configuration.{maskCalled, usable, usableCovering}
-use Rattle.rules.specs.Serving.{Due, Usable, ratingsFrom, Covers, Serves}
+use Rattle.rules.specs.Serving.{Due, Usable, ratingsFrom, Serves}
 use Rattle.rules.proofs.Tests.{never, both, and-true, to-at, to-all}
 use Rattle.rules.proofs.Checks.{passed}
 use Rattle.rules.proofs.Tables.{has-beyond}

@@ -7,11 +7,11 @@ use native.Mathlib.Omega.{arith}
 use lib.Dec.{leb}
 use lib.ListN.{length, drop}
 use lib.Seq.{drop-drop}
-use borrow.Author.Tests.{le-leb, lt-leb, leb-true, leb-false}
+use borrow.Author.Tests.{le-leb, leb-true}
 use Rattle.rules.specs.declared.samples.Sample.{Sample}
 use Rattle.rules.specs.declared.run.Inputs.{Inputs}
 use Rattle.rules.specs.Numbers.{if_then_else_}
-use Rattle.rules.specs.Answers.{Answer, accepted, refused, refusalOf}
+use Rattle.rules.specs.Answers.{Answer, accepted, refused}
 use Rattle.rules.specs.Lines.{Line}
 use Rattle.rules.specs.SampleFile.{holding}
 use Rattle.rules.specs.Run.{inputsOf}
@@ -27,7 +27,7 @@ use Rattle.samples.specs.declared.inputs.InForce.{InForce}
 use Rattle.samples.specs.declared.inputs.Begun.{Begun}
 use Rattle.samples.specs.ToCome.{toCome, rowFirst}
 use Rattle.samples.specs.Streamed.{yetToCome, linesAfter, begunIn, isRow, isRefused, NextRight, endingOf}
-use Rattle.samples.specs.Held.{rowsAhead, sourceRows, isEnded, sourceEnded, refusedAhead, sourceRefused, heldFrom, Onward, lastComesIn, comesIn, readerAt, AtSecond, ReachedRight, aheadAtEnd, EndedRight}
+use Rattle.samples.specs.Held.{rowsAhead, sourceRows, isEnded, refusedAhead, sourceRefused, heldFrom, Onward, lastComesIn, comesIn, readerAt, ReachedRight, aheadAtEnd, EndedRight}
 use Rattle.samples.proofs.LineLaws.{drop-least}
 
 -- ---- rows that are held

@@ -1,20 +1,15 @@
 -- The rows of an accepted sample file are right, and so is what each second is handed: every power is at most 50,000 kW, and the
 -- sheddable load is not above the load. Assumes nothing.
-use Prim.Native.Nat.{ℕ, zero, suc, _+_, _≤_, _<_}
+use Prim.Native.Nat.{ℕ, zero, suc, _+_}
 use mathlib.Core.Path.{_≡_, refl, sym, ap, subst, _∙_}
-use mathlib.Core.Bool.{Bool, true, false}
 use mathlib.Core.List.{List, [], _∷_, _++_, map, append-nil}
 use native.Mathlib.Omega.{arith}
-use lib.Dec.{leb, ltb, eqb}
-use lib.ListN.{length, getD, drop}
-use borrow.Author.Tests.{leb-true, eqb-true}
+use lib.ListN.{drop}
 use Rattle.rules.specs.declared.samples.Sample.{Sample}
 use Rattle.rules.specs.declared.run.Inputs.{Inputs}
-use Rattle.rules.specs.Numbers.{if_then_else_, tab}
-use Rattle.rules.specs.Bytes.{point, digits, value, parts}
-use Rattle.rules.specs.Lines.{Line, cellsOf}
-use Rattle.rules.specs.Answers.{Answer, accepted, refused, refusalOf, need, _>>=_, _>>_}
-use Rattle.rules.specs.SampleFile.{sampleSheet, limited, timeCell, powerForm, powerValue, powerCell, cell, cellValues, valueUnder, agreeing, rowValues, timeIn, laterRows, rowsAfter, headingLine, sheetLines, sampleOf, holding, beforeAll}
+use Rattle.rules.specs.Lines.{Line}
+use Rattle.rules.specs.Answers.{Answer, accepted, refused}
+use Rattle.rules.specs.SampleFile.{sampleSheet, laterRows, rowsAfter, sheetLines, sampleOf, holding, beforeAll}
 use Rattle.rules.specs.Run.{inputsOf}
 use Rattle.rules.proofs.Checks.{not-accepted, same-value}
 use Rattle.rules.proofs.SampleRows.{RowRight, RowsRight, later-right, after-right, sheet-right, head-right, tail-right, holding-right}

@@ -1,5 +1,5 @@
 -- What a run that begins prints is what document 01's definition of the run program prints. Assumes nothing.
-use Prim.Native.Nat.{ℕ, zero, suc, _+_, _≤_}
+use Prim.Native.Nat.{ℕ, zero, suc, _+_}
 use mathlib.Core.Path.{_≡_, refl, sym, ap, _∙_, subst}
 use mathlib.Core.Bool.{true}
 use mathlib.Core.List.{List, [], _∷_, _++_, append-assoc}
@@ -9,33 +9,31 @@ use Rattle.rules.specs.declared.station.Station.{Station}
 use Rattle.rules.specs.declared.run.Inputs.{Inputs}
 use Rattle.rules.specs.declared.run.Run.{Run}
 use Rattle.rules.specs.declared.samples.Sample.{Sample}
-use Rattle.rules.specs.Answers.{Answer, accepted, refused, _>>=_, numberAndPlace}
+use Rattle.rules.specs.Answers.{Answer, accepted, refused, _>>=_}
 use Rattle.rules.specs.StationFile.{stationFile}
 use Rattle.rules.specs.StationRecord.{someFileGives}
 use Rattle.rules.specs.SampleFile.{sampleFile, sampleAt, holding, beforeAll}
-use Rattle.rules.specs.RunRecord.{startRecord, start, possible}
-use Rattle.rules.specs.Row.{rowHeading, rowText, setHeading, setLines, refusalLine}
+use Rattle.rules.specs.RunRecord.{startRecord}
+use Rattle.rules.specs.Row.{rowHeading, rowText, refusalLine}
 use Rattle.rules.specs.Second.{step, recordAfter}
 use Rattle.rules.specs.Run.{inputsOf, rowsFrom, secondsAsked, runOf, shown, printed}
 use Rattle.rules.proofs.Shapes.{tables-of}
 use Rattle.rules.proofs.Start.{start-possible}
 use Rattle.rules.proofs.StationRead.{read-is-right}
-use Rattle.rules.proofs.SampleRows.{RowRight, RowsRight}
+use Rattle.rules.proofs.SampleRows.{RowsRight}
 use Rattle.records.proofs.StartTold.{start-accepted}
 use Rattle.samples.specs.declared.check.Span.{Span}
-use Rattle.samples.specs.declared.inputs.Ahead.{Ahead}
 use Rattle.samples.specs.ToCome.{placed}
 use Rattle.samples.specs.Streamed.{sheetSpan, spanOf}
 use Rattle.samples.specs.Held.{sourceRows, heldFrom}
-use Rattle.samples.proofs.RowsRight.{AheadRight, SourceRight, start-right, source-rows-right}
+use Rattle.samples.proofs.RowsRight.{start-right, source-rows-right}
 use Rattle.simulation.specs.declared.state.Phase.{Phase}
 use Rattle.simulation.specs.declared.state.Simulation.{Simulation}
-use Rattle.simulation.specs.Rows.{rowTexts, runAfter, setTexts, rowsWith, Right, AllRight, none, more}
+use Rattle.simulation.specs.Rows.{rowTexts, runAfter, setTexts, rowsWith, AllRight, none, more}
 use Rattle.simulation.specs.Text.{refusedLine, textOf, toPrint}
 use Rattle.simulation.specs.Turns.{inputsAll, Coming, ComesIn, Comes}
 use Rattle.simulation.specs.Begin.{Refuses, Starting, BegunAs}
 use Rattle.simulation.proofs.BeginLaws.{asked-most}
-use Rattle.simulation.proofs.TurnLaws.{with-none, with-split}
 
 -- ---- "A row holds until the next": the rows of the definition are those of the inputs held
 

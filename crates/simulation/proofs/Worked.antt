@@ -1,12 +1,10 @@
 -- What a call of many seconds comes to: the rows of the seconds that it accepted, in their order; and it accepts all of them where their
 -- inputs are right and their rows have room. Assumes nothing.
-use Prim.Native.Nat.{ℕ, zero, suc, _+_, _-_, _*_, _≤_, _<_}
+use Prim.Native.Nat.{ℕ, suc, _+_, _-_, _*_, _≤_, _<_}
 use mathlib.Core.Path.{_≡_, refl, sym, ap, _∙_}
-use mathlib.Core.Bool.{Bool, true, false, _&&_}
+use mathlib.Core.Bool.{Bool, true}
 use mathlib.Core.List.{List, [], _∷_, _++_, append-nil, append-assoc}
 use native.Mathlib.Omega.{arith}
-use native.Mathlib.Numerals.{add-one}
-use lib.Dec.{leb, ltb}
 use lib.ListN.{length, length-append}
 use borrow.Author.Tests.{le-leb, lt-ltb}
 use Rattle.rules.specs.declared.station.Station.{Station}
@@ -19,10 +17,9 @@ use Rattle.rules.specs.RunRecord.{possible, mostSeconds}
 use Rattle.rules.specs.Row.{rowText}
 use Rattle.rules.specs.Second.{step, recordAfter, second, admitted, inputsRight}
 use Rattle.rules.proofs.Shapes.{Tables}
-use Rattle.laws.specs.Admitted.{Admitted}
 use Rattle.laws.proofs.Kept.{admitted-of, second-kept}
 use Rattle.laws.proofs.RowLength.{row-length}
-use Rattle.dispatch.specs.Seconds.{Calls, onward, callsFrom, callsOf}
+use Rattle.dispatch.specs.Seconds.{Calls, onward, callsFrom}
 use Rattle.simulation.specs.Rows.{rowTexts, runAfter, Right, AllRight, none, more}
 
 module _ (st : Station) (room : ℕ) where
