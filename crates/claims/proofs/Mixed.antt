@@ -32,7 +32,7 @@ use Rattle.claims_rules.proofs.Calls.{Owes}
 use Rattle.claims_rules.proofs.Batches.{OwesBatch, OwesAsRuled, possible-on, claim-batches}
 use Rattle.claims.specs.Functions.{ReadBy, StartedBy, ManyCall, ManyBy}
 use Rattle.claims.specs.Demand3.{FromFile}
-use Rattle.claims.specs.Mixed.{secondsIn, bytesIn, oneOf, manyOf, Mixed, none, one, many, MixedDemand3}
+use Rattle.claims.specs.Mixed.{secondsIn, bytesIn, oneOf, manyOf, Handing, Mixed, none, one, many, MixedDemand3}
 use Rattle.claims.proofs.AskNothing.{ask-nothing}
 use Rattle.claims.proofs.FromFile.{owes, Begun, begun}
 use Rattle.claims.proofs.MixedExists.{mixed-exists}
@@ -126,7 +126,7 @@ module _ (st : Station) (given : someFileGives st ≡ true) (tables : Tables st)
 
   -- ---- every list of both
 
-  mixed-owe : {r last : Run} {bs : List Batch} → possible st r ≡ true → Mixed st r bs last → ChainedBatches (OwesAsRuled st) r bs last
+  mixed-owe : {r last : Run} {hs : List Handing} {bs : List Batch} → possible st r ≡ true → Mixed st r hs bs last → ChainedBatches (OwesAsRuled st) r bs last
   mixed-owe h none = batches.none
   mixed-owe {r} {last} h (one {bs = bs} c o rest) =
       let b : OwesAsRuled st r (oneOf c) = second-owes r c h (owes st r c o) in
@@ -137,13 +137,13 @@ module _ (st : Station) (given : someFileGives st ≡ true) (tables : Tables st)
 
 -- ---- the theorem
 
-every-list : (file : List ℕ) (g : Reading) (s : Started) (bs : List Batch) (last : Run)
-    → ReadBy file g → g .verdict ≡ Accepted → StartedBy (g .station) s → Mixed (g .station) (s .run) bs last
+every-list : (file : List ℕ) (g : Reading) (s : Started) (handed : List Handing) (bs : List Batch) (last : Run)
+    → ReadBy file g → g .verdict ≡ Accepted → StartedBy (g .station) s → Mixed (g .station) (s .run) handed bs last
     → FromFile file g s × ClaimBatches (g .station) (s .run) bs last
-every-list file g s bs last read accepts starts calls =
+every-list file g s handed bs last read accepts starts calls =
     let b : Begun file g s = begun file g s read accepts starts in
     let first : s .run ≡ startRecord (g .station) = b .from-file .record-started in
-    let from : Mixed (g .station) (startRecord (g .station)) bs last = rw first at calls in
+    let from : Mixed (g .station) (startRecord (g .station)) handed bs last = rw first at calls in
     let owed : ChainedBatches (OwesAsRuled (g .station)) (startRecord (g .station)) bs last = mixed-owe (g .station) (b .given) (b .tables) (start-possible (g .station) (b .given)) from in
     (b .from-file, rw first (claim-batches (g .station) (b .given) (b .tables) bs last owed))
 

@@ -20,7 +20,7 @@ use Rattle.claims_rules.specs.Batches.{Batch}
 use Rattle.claims.specs.Functions.{ManyCall, ManyBy}
 use Rattle.claims.specs.Demand3.{Lent}
 use Rattle.claims.specs.Mixed as mixed
-use Rattle.claims.specs.Mixed.{oneOf, manyOf, Mixed, Handing, AsHanded, RealisedMixed}
+use Rattle.claims.specs.Mixed.{oneOf, manyOf, Mixed, Handing, RealisedMixed}
 use Rattle.claims.proofs.Exists.{Answers, answers, callOf, called-by, readingOf, startedOf, was-read, was-started, from-file}
 
 -- ---- what ends the calls of many seconds is a verdict of the code
@@ -94,12 +94,11 @@ module _ (st : Station) (r : Run) (loads solars sheddables lent : List ℕ) wher
 record Made (st : Station) (r : Run) (handed : List Handing) : Type 0 where
   batches : List Batch
   last : Run
-  mixed : Mixed st r batches last
-  as-handed : AsHanded handed batches
+  mixed : Mixed st r handed batches last
 
 made : (st : Station) (r : Run) (handed : List Handing) → Made st r handed
 unfolding callOf
-made st r [] = record { batches = []; last = r; mixed = mixed.none; as-handed = tt }
+made st r [] = record { batches = []; last = r; mixed = mixed.none }
 made st r (Handing.second x lent ∷ handed) =
     let l : Lent = record { inputs = x; lent = lent } in
     let e = made st (recordHanded r (second st r x (length lent))) handed in
@@ -107,7 +106,6 @@ made st r (Handing.second x lent ∷ handed) =
       batches = oneOf (callOf st r l) ∷ e .batches;
       last = e .last;
       mixed = mixed.one (callOf st r l) (called-by st r l) (e .mixed);
-      as-handed = ((refl, refl), e .as-handed);
     }
 made st r (Handing.seconds loads solars sheddables lent ∷ handed) =
     let e = made st (callsOf st r (inputsOf loads solars sheddables) (length lent) .run) handed in
@@ -115,7 +113,6 @@ made st r (Handing.seconds loads solars sheddables lent ∷ handed) =
       batches = manyOf (manyCallOf st r loads solars sheddables lent) ∷ e .batches;
       last = e .last;
       mixed = mixed.many (manyCallOf st r loads solars sheddables lent) (many-by st r loads solars sheddables lent) (e .mixed);
-      as-handed = ((refl, refl), e .as-handed);
     }
 
 pub mixed-exists : (file : List ℕ) (st : Station) → stationFile file ≡ accepted st → (handed : List Handing) → RealisedMixed file handed
@@ -131,5 +128,4 @@ mixed-exists file st h handed =
       batches = m .batches;
       last = m .last;
       mixed = m .mixed;
-      as-handed = m .as-handed;
     }

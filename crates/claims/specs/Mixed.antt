@@ -50,29 +50,20 @@ manyOf m = record {
   left = m .left;
 }
 
--- "Each gets the record last handed back", whichever of the two handed it back
-pub data Mixed (st : Station) : Run → List Batch → Run → Type 0 where
-  none : {r : Run} → Mixed st r [] r
-  one : {r last : Run} {bs : List Batch} (c : Call) → CalledBy st r c → Mixed st (c .handed .run) bs last → Mixed st r (oneOf c ∷ bs) last
-  many : {r last : Run} {bs : List Batch} (m : ManyCall) → ManyBy st r m → Mixed st (m .worked .run) bs last → Mixed st r (manyOf m ∷ bs) last
-
--- ---- and such lists exist
-
--- what a call is handed beside station and record
+-- which call was made, and what it was handed beside station and record
 pub data Handing : Type 0 where
   second : Inputs → List ℕ → Handing
   seconds : List ℕ → List ℕ → List ℕ → List ℕ → Handing
 
--- a batch was handed just that
-abbrev pub HandedTo : Handing → Batch → Type 0
-HandedTo (second x lent) b = (b .inputs ≡ x ∷ []) × (b .lent ≡ lent)
-HandedTo (seconds loads solars sheddables lent) b = (b .inputs ≡ inputsOf loads solars sheddables) × (b .lent ≡ lent)
+-- "Each gets the record last handed back", whichever of the two handed it back
+pub data Mixed (st : Station) : Run → List Handing → List Batch → Run → Type 0 where
+  none : {r : Run} → Mixed st r [] [] r
+  one : {r last : Run} {handed : List Handing} {bs : List Batch} (c : Call) → CalledBy st r c → Mixed st (c .handed .run) handed bs last
+      → Mixed st r (second (c .inputs) (c .lent) ∷ handed) (oneOf c ∷ bs) last
+  many : {r last : Run} {handed : List Handing} {bs : List Batch} (m : ManyCall) → ManyBy st r m → Mixed st (m .worked .run) handed bs last
+      → Mixed st r (seconds (m .loads) (m .solars) (m .sheddables) (m .lent) ∷ handed) (manyOf m ∷ bs) last
 
-abbrev pub AsHanded : List Handing → List Batch → Type 0
-AsHanded [] [] = Unit {0}
-AsHanded [] (b ∷ bs) = ⊥
-AsHanded (h ∷ hs) [] = ⊥
-AsHanded (h ∷ hs) (b ∷ bs) = HandedTo h b × AsHanded hs bs
+-- ---- and such lists exist
 
 pub record RealisedMixed (file : List ℕ) (handed : List Handing) : Type 0 where
   pub reading : Reading
@@ -83,14 +74,13 @@ pub record RealisedMixed (file : List ℕ) (handed : List Handing) : Type 0 wher
   pub from-file : FromFile file reading started
   pub batches : List Batch
   pub last : Run
-  pub mixed : Mixed (reading .station) (started .run) batches last
-  pub as-handed : AsHanded handed batches
+  pub mixed : Mixed (reading .station) (started .run) handed batches last
 
 -- ---- the demand
 
 pub record MixedDemand3 : Type 0 where
   pub any-arguments : AskNothing
-  pub every-list : (file : List ℕ) (g : Reading) (s : Started) (batches : List Batch) (last : Run)
-      → ReadBy file g → g .verdict ≡ Accepted → StartedBy (g .station) s → Mixed (g .station) (s .run) batches last
+  pub every-list : (file : List ℕ) (g : Reading) (s : Started) (handed : List Handing) (batches : List Batch) (last : Run)
+      → ReadBy file g → g .verdict ≡ Accepted → StartedBy (g .station) s → Mixed (g .station) (s .run) handed batches last
       → FromFile file g s × ClaimBatches (g .station) (s .run) batches last
   pub lists-exist : (file : List ℕ) (st : Station) → stationFile file ≡ accepted st → (handed : List Handing) → RealisedMixed file handed

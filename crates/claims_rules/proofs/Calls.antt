@@ -19,12 +19,12 @@ use Rattle.rules.specs.RunRecord.{mostSeconds, possible}
 use Rattle.rules.specs.Row.{rowText}
 use Rattle.rules.specs.Second.{recordAfter, step, inputsRight, admitted, second, lengthAnswered, recordHanded, bufferLeft, Second}
 use Rattle.rules.specs.Calls.{Call, Chained, none, more}
-use Rattle.rules.proofs.Checks.{not-accepted, passed, last-passed, both-passed}
+use Rattle.rules.proofs.Checks.{passed, last-passed, both-passed}
 use Rattle.rules.proofs.Shapes.{Tables}
 use Rattle.laws.proofs.Kept.{judged-is, admitted-of, second-kept}
 use Rattle.laws.proofs.RowLength.{row-length}
 use Rattle.claims_rules.specs.Shown.{Shown, Worked}
-use Rattle.claims_rules.specs.Claim.{toldBy, told, workedBy, workedIn, asked, secondBy, rowBy, ruledFrom, Kept}
+use Rattle.claims_rules.specs.Claim.{toldBy, told, workedBy, workedIn, asked, secondBy, rowBy, ruledFrom, KeptBy, Kept}
 use Rattle.claims_rules.proofs.Seconds.{read-back, workedAt}
 use Rattle.claims_rules.proofs.Lists as lists
 use Rattle.claims_rules.proofs.Lists.{Steps, workedOf}
@@ -55,30 +55,23 @@ length-kept : (t lent left : List ℕ) → length t ≤ length lent → left ≡
 length-kept t lent left k l = ap length l ∙ length-append t (drop (length t) lent) ∙ (let e : length t + length (drop (length t) lent) ≡ length lent = omega (arith, length-drop (length t) lent) in e)
 
 -- what is known of an accepted second's record and row
-record Moved (r : Run) (lent : List ℕ) (s : Step) : Type 0 where
+record Worth (r : Run) (lent : List ℕ) (s : Step) : Type 0 where
   done-is : s .run .done ≡ r .done + 1
   row-small : length (rowText (s .row)) ≤ 153
   room : 256 ≤ length lent
 
-kept-is : (a : Answer Step) (r : Run) (c : Call) → ((s : Step) → a ≡ accepted s → Moved r (c .lent) s)
-    → outcomeOf (c .handed .answer) ≡ lengthAnswered a → c .handed .run ≡ recordHanded r a → c .left ≡ bufferLeft (c .lent) a → Kept r c
-kept-is (accepted s) r c moves e h l =
-    let m = moves s refl in
-    let is : (size : ℕ) → outcomeOf (c .handed .answer) ≡ accepted size → size ≡ length (rowText (s .row)) = λ size q. cc (sym q ∙ e) in
-    record {
-      refused-keeps = λ n p q. absurd (let z : _≡_ {A = ℕ} 0 1 = cc (sym q ∙ e) in omega arith);
-      accepted-moves = λ size q. ap (λ (x : Run). x .done) h ∙ m .done-is;
-      rest-stays = λ size q. bytes-stay (rowText (s .row)) (c .lent) (c .left) size (is size q) l;
-      row-fits = λ size q. (omega (arith, is size q, m .row-small), omega (arith, is size q, m .row-small, m .room));
-      length-stays = length-kept (rowText (s .row)) (c .lent) (c .left) (omega (arith, m .row-small, m .room)) l;
-    }
-kept-is (refused n p) r c moves e h l = record {
-  refused-keeps = λ n p q. (h, l);
-  accepted-moves = λ size q. not-accepted n p size (sym e ∙ q);
-  rest-stays = λ size q. not-accepted n p size (sym e ∙ q);
-  row-fits = λ size q. not-accepted n p size (sym e ∙ q);
-  length-stays = ap length l;
-}
+kept-by : (a : Answer Step) (r : Run) (c : Call) → ((s : Step) → a ≡ accepted s → Worth r (c .lent) s) → c .handed .run ≡ recordHanded r a → c .left ≡ bufferLeft (c .lent) a
+    → KeptBy (lengthAnswered a) r c × (length (c .left) ≡ length (c .lent))
+kept-by (accepted s) r c worth h l =
+    let m = worth s refl in (
+      record {
+        second-done = ap (λ (x : Run). x .done) h ∙ m .done-is;
+        rest-stays = bytes-stay (rowText (s .row)) (c .lent) (c .left) (length (rowText (s .row))) refl l;
+        row-fits = (m .row-small, omega (arith, m .row-small, m .room));
+      },
+      length-kept (rowText (s .row)) (c .lent) (c .left) (omega (arith, m .row-small, m .room)) l,
+    )
+kept-by (refused n p) r c worth h l = (record { record-kept = h; buffer-kept = l }, ap length l)
 
 module _ (st : Station) (given : someFileGives st ≡ true) (tables : Tables st) where
   -- what is known of a list of calls
@@ -112,18 +105,20 @@ module _ (st : Station) (given : someFileGives st ≡ true) (tables : Tables st)
     unfolding step recordAfter
     one-more = refl
 
-    moves : (s : Step) → answer ≡ accepted s → Moved r (c .lent) s
-    moves s e =
+    worth : (s : Step) → answer ≡ accepted s → Worth r (c .lent) s
+    worth s e =
         let a = admitted-of st r (c .inputs) (length (c .lent)) s (answer-is ∙ e) in
         let b = both-passed (admitted (r .done) (c .inputs) (length (c .lent))) (accepted (step st r (c .inputs))) s e in
-        subst (Moved r (c .lent)) (a .1) (record {
+        subst (Worth r (c .lent)) (a .1) (record {
           done-is = one-more;
           row-small = row-length st tables r (c .inputs) (a .0);
           room = room-passed (r .done) (c .inputs) (length (c .lent)) (b .0);
         })
 
     kept-here : Kept r c
-    kept-here = kept-is answer r c moves answers hands leaves
+    kept-here =
+        let k = kept-by answer r c worth hands leaves in
+        record { by-answer = subst (λ (q : Answer ℕ). KeptBy q r c) (sym answers) (k .0); length-stays = k .1 }
 
     possible-after : (a : Answer Step) → second st r (c .inputs) (length (c .lent)) ≡ a → possible st (recordHanded r a) ≡ true
     possible-after (accepted s) e = second-kept st tables r (c .inputs) (length (c .lent)) s e

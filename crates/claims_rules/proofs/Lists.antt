@@ -2,31 +2,32 @@
 use Prim.Native.Nat.{ℕ, _+_, _*_, _<_}
 use mathlib.Core.Path.{_≡_, refl, sym, ap, _∙_}
 use mathlib.Core.Bool.{Bool, true, false}
-use mathlib.Core.List.{List, [], _∷_}
+use mathlib.Core.List.{List, [], _∷_, map}
 use native.Mathlib.Omega.{arith}
 use native.Mathlib.Nat.{mul-comm, mul-add, mul-zero}
 use lib.ListN.{length}
 use Rattle.rules.specs.declared.station.Station.{Station}
 use Rattle.rules.specs.declared.run.Inputs.{Inputs}
 use Rattle.rules.specs.declared.run.Run.{Run}
+use Rattle.rules.specs.declared.run.SetState.{SetState}
 use Rattle.rules.specs.declared.run.Totals.{Totals}
 use Rattle.rules.specs.Numbers.{if_then_else_, has}
 use Rattle.rules.specs.StationRecord.{setAt}
 use Rattle.rules.specs.Share.{share}
-use Rattle.rules.specs.Fuel.{fuelRate, fuelSum}
+use Rattle.rules.specs.Fuel.{fuelRate}
 use Rattle.rules.specs.Modes.{stateAt}
 use Rattle.rules.specs.Flows.{wattsWith, wattsFor}
 use Rattle.rules.specs.Configuration.{maskCalled}
 use Rattle.rules.specs.RunRecord.{possible}
 use Rattle.rules.specs.Second.{statesNow, onNow, wattsNow, ranNow, callNow, commandedNow, recordAfter, rowAfter, step}
-use Rattle.rules.proofs.Counts.{fuel-after}
+use Rattle.rules.proofs.Counts.{run-after, energy-after, fuel-after}
 use Rattle.rules.proofs.Shapes.{Tables}
 use Rattle.laws.specs.Admitted.{Admitted}
 use Rattle.laws.proofs.Kept.{record-kept}
 use Rattle.claims_rules.specs.Shown.{Worked, total}
 use Rattle.claims_rules.specs.Replay.{Replay, replayOf, followedTo, Replayed, replayed}
 use Rattle.claims_rules.specs.InRow.{InRows}
-use Rattle.claims_rules.specs.Burned.{powersOf}
+use Rattle.claims_rules.specs.Burned.{powersOf, sumOf}
 use Rattle.claims_rules.specs.Claim.{metBy, callAfter}
 use Rattle.claims_rules.proofs.Seconds.{workedAt, follows, load-met, solar-placed, store-moves, in-row}
 
@@ -127,18 +128,31 @@ module _ (st : Station) (tables : Tables st) where
   total-last get number grows none = omega arith
   total-last get number grows {r} (more {x = x} {xs = xs} h rest) = omega (arith, grows r x, total-last get number grows rest)
 
-  -- ---- the fuel of the set at a place
+  -- ---- a count of the set at a place, which grows by an amount in each second that it runs
 
+  module _ (i : ℕ) (f : SetState → ℕ) (amount : ℕ → ℕ)
+      (grows : (r : Run) (x : Inputs) → f (stateAt (step st r x .run .sets) i) ≡ f (stateAt (r .sets) i) + (if has (onNow st r) i then amount (share (st .sets) (onNow st r) (wattsNow st r x .diesel) i) else 0)) where
+    one-more : (b : Bool) (a now power : ℕ) (later : List ℕ) (final : ℕ) → now ≡ a + (if b then amount power else 0) → final ≡ now + sumOf (map amount later) → final ≡ a + sumOf (map amount (if b then power ∷ later else later))
+    unfolding sumOf
+    one-more true a now power later final e h = omega arith
+    one-more false a now power later final e h = omega arith
+
+    pub count-sum : {r last : Run} {xs : List Inputs} → Steps st r xs last → f (stateAt (last .sets) i) ≡ f (stateAt (r .sets) i) + sumOf (map amount (powersOf st i (replayedOf st r xs)))
+    unfolding replayedOf powersOf sumOf workedAt step rowAfter
+    count-sum none = omega arith
+    count-sum {r} (more {x = x} {xs = xs} h rest) =
+        one-more (has (onNow st r) i) _ _ (share (st .sets) (onNow st r) (wattsNow st r x .diesel) i) _ _ (grows r x) (count-sum rest)
+
+  -- step 8's three
   module _ (i : ℕ) (l : i < 8) where
-    burned : (b : Bool) (a f power : ℕ) (later : List ℕ) (final : ℕ) → f ≡ a + (if b then fuelRate (setAt (st .sets) i) power else 0) → final ≡ f + fuelSum (setAt (st .sets) i) later
-        → final ≡ a + fuelSum (setAt (st .sets) i) (if b then power ∷ later else later)
-    unfolding fuelSum
-    burned true a f power later final e h = omega arith
-    burned false a f power later final e h = omega arith
+    pub run-grows : (r : Run) (x : Inputs) → stateAt (step st r x .run .sets) i .run ≡ stateAt (r .sets) i .run + (if has (onNow st r) i then 1 else 0)
+    unfolding step recordAfter commandedNow ranNow statesNow onNow
+    run-grows r x = run-after (st .sets) (r .sets) (wattsNow st r x .diesel) (maskCalled (st .configs) (callNow st r x (wattsNow st r x))) i l
 
-    pub fuel-sum : {r last : Run} {xs : List Inputs} → Steps st r xs last → stateAt (last .sets) i .fuel ≡ stateAt (r .sets) i .fuel + fuelSum (setAt (st .sets) i) (powersOf st i (replayedOf st r xs))
-    unfolding replayedOf powersOf fuelSum workedAt step rowAfter recordAfter commandedNow ranNow statesNow onNow
-    fuel-sum none = omega arith
-    fuel-sum {r} (more {x = x} {xs = xs} h rest) =
-        burned (has (onNow st r) i) _ _ (share (st .sets) (onNow st r) (wattsNow st r x .diesel) i) _ _
-        (fuel-after (st .sets) (r .sets) (wattsNow st r x .diesel) (maskCalled (st .configs) (callNow st r x (wattsNow st r x))) i l) (fuel-sum rest)
+    pub energy-grows : (r : Run) (x : Inputs) → stateAt (step st r x .run .sets) i .energy ≡ stateAt (r .sets) i .energy + (if has (onNow st r) i then share (st .sets) (onNow st r) (wattsNow st r x .diesel) i else 0)
+    unfolding step recordAfter commandedNow ranNow statesNow onNow
+    energy-grows r x = energy-after (st .sets) (r .sets) (wattsNow st r x .diesel) (maskCalled (st .configs) (callNow st r x (wattsNow st r x))) i l
+
+    pub fuel-grows : (r : Run) (x : Inputs) → stateAt (step st r x .run .sets) i .fuel ≡ stateAt (r .sets) i .fuel + (if has (onNow st r) i then fuelRate (setAt (st .sets) i) (share (st .sets) (onNow st r) (wattsNow st r x .diesel) i) else 0)
+    unfolding step recordAfter commandedNow ranNow statesNow onNow
+    fuel-grows r x = fuel-after (st .sets) (r .sets) (wattsNow st r x .diesel) (maskCalled (st .configs) (callNow st r x (wattsNow st r x))) i l

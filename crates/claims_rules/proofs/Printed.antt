@@ -41,9 +41,9 @@ use Rattle.laws.specs.Admitted.{Admitted}
 use Rattle.laws.proofs.Kept.{record-kept}
 use Rattle.claims_rules.specs.Shown.{numbersIn, Shown, Worked, rowsOf}
 use Rattle.claims_rules.specs.Replay.{atFirst, replayed}
-use Rattle.claims_rules.specs.Burned.{powersOf, Burned}
-use Rattle.claims_rules.specs.Claim.{OverRows}
-use Rattle.claims_rules.specs.Printed.{linesOf, lineOf, inputsFrom, printedRows, storeAfter, setNumbers, fuelPrinted, Printed}
+use Rattle.claims_rules.specs.Burned.{powersOf, sumOf, Burned}
+use Rattle.claims_rules.specs.Claim.{Counted, countedBy, OverRows}
+use Rattle.claims_rules.specs.Printed.{linesOf, lineOf, inputsFrom, printedRows, storeAfter, setNumbers, countsPrinted, Printed}
 use Rattle.claims_rules.proofs.Seconds.{rowLine, row-first, row-shown, workedAt}
 use Rattle.claims_rules.proofs.Lists as lists
 use Rattle.claims_rules.proofs.Lists.{Steps, workedOf}
@@ -241,10 +241,17 @@ module _ (st : Station) (given : someFileGives st ≡ true) (tables : Tables st)
     unfolding startRecord
     store-is = ap (storeAfter (st .battery .start)) rows-are ∙ sym (store-last (whole .steps))
 
-    over : OverRows st (workedOf st first xs) (last .store) (λ i. stateAt (last .sets) i .fuel)
+    over : OverRows st (workedOf st first xs) (last .store) (countedBy last)
     over = over-rows st given tables xs last (whole .steps)
 
-    holds : OverRows st (workedOf st first xs) (last .store) (fuelPrinted n text)
+    -- a set's counts are those on its line
+    counts-are : (i : ℕ) → i < st .setcount → countedBy last i ≡ countsPrinted n text i
+    counts-are i l = sym (ap (λ (ns : List ℕ). record { run = getD ns 1 0; energy = getD ns 4 0; fuel = getD ns 5 0 }) (set-at i l))
+
+    abbrev powers : ℕ → List ℕ
+    powers i = powersOf st i (replayed st (atFirst st) (workedOf st first xs))
+
+    holds : OverRows st (workedOf st first xs) (last .store) (countsPrinted n text)
     holds =
         let o = over in
         record {
@@ -253,7 +260,9 @@ module _ (st : Station) (given : someFileGives st ≡ true) (tables : Tables st)
           solar-placed = o .solar-placed;
           store-moved = o .store-moved;
           each-row = o .each-row;
-          fuel-burned = λ i l. subst (λ (fuel : ℕ). Burned (setAt (st .sets) i) fuel (powersOf st i (replayed st (atFirst st) (workedOf st first xs)))) (sym (ap (λ (ns : List ℕ). getD ns 5 0) (set-at i l))) (o .fuel-burned i l);
+          fuel-burned = λ i l. subst (λ (c : Counted). Burned (setAt (st .sets) i) (c .fuel) (powers i)) (counts-are i l) (o .fuel-burned i l);
+          run-counted = λ i l. subst (λ (c : Counted). c .run ≡ length (powers i)) (counts-are i l) (o .run-counted i l);
+          energy-counted = λ i l. subst (λ (c : Counted). c .energy ≡ sumOf (powers i)) (counts-are i l) (o .energy-counted i l);
         }
 
     pub text-holds : Printed st samples n text
@@ -264,8 +273,8 @@ module _ (st : Station) (given : someFileGives st ≡ true) (tables : Tables st)
       set-numbered = λ i l. ap (λ (ns : List ℕ). getD ns 0 0) (set-at i l) ∙ (let e : suc (0 + i) ≡ suc i = omega arith in e);
       nothing-after = nothing;
       over-rows =
-          subst (λ (rows : List Worked). OverRows st rows (storeAfter (st .battery .start) (printedRows samples n text)) (fuelPrinted n text)) (sym rows-are)
-          (subst (λ (store : ℕ). OverRows st (workedOf st first xs) store (fuelPrinted n text)) (sym store-is) holds);
+          subst (λ (rows : List Worked). OverRows st rows (storeAfter (st .battery .start) (printedRows samples n text)) (countsPrinted n text)) (sym rows-are)
+          (subst (λ (store : ℕ). OverRows st (workedOf st first xs) store (countsPrinted n text)) (sym store-is) holds);
     }
 
 -- ---- the theorem

@@ -1,6 +1,6 @@
 -- One accepted second: its row's numbers, the replay through it, and what demand 3 says of the row. Assumes nothing.
 use Prim.Native.Nat.{ℕ, zero, suc, _+_, _-_, _*_, _≤_, _<_}
-use mathlib.Core.Path.{_≡_, sym, ap, _∙_}
+use mathlib.Core.Path.{_≡_, sym, ap, _∙_, refl, subst}
 use mathlib.Core.Bool.{Bool, true}
 use mathlib.Core.List.{List, [], _∷_, _++_, append-nil}
 use native.Mathlib.Omega.{arith}
@@ -16,7 +16,7 @@ use Rattle.rules.specs.declared.run.SetState.{SetState}
 use Rattle.rules.specs.declared.run.Watts.{Watts}
 use Rattle.rules.specs.Numbers.{if_then_else_, has, tab}
 use Rattle.rules.specs.Bytes.{LF, parts}
-use Rattle.rules.specs.Share.{share}
+use Rattle.rules.specs.Share.{capacity, share}
 use Rattle.rules.specs.Modes.{stateAt, isOn, ticked, onMask}
 use Rattle.rules.specs.Flows.{shedNow, solarOnLoad, wattsWith, wattsFor}
 use Rattle.rules.specs.Configuration.{maskCalled}
@@ -25,10 +25,10 @@ use Rattle.rules.specs.RunRecord.{recordRules, possible}
 use Rattle.rules.specs.Row.{columns, rowText}
 use Rattle.rules.specs.Second.{statesNow, onNow, capNow, floorNow, wattsNow, storeNow, ranNow, heldNow, callNow, commandedNow, recordAfter, rowAfter, step}
 use Rattle.rules.proofs.Tests.{never, all-at, within-fact}
-use Rattle.rules.proofs.Counts.{served, ran-mode, ran-clock, clock-after}
+use Rattle.rules.proofs.Counts.{on-told, served, ran-mode, ran-clock, clock-after}
 use Rattle.rules.proofs.Masks.{mask-below, mask-has}
 use Rattle.rules.proofs.ReadBack.{lineOf, line-first, line-numbers}
-use Rattle.rules.proofs.Serving.{modeOf, clockOf, serves-by, serves-told, serves-means}
+use Rattle.rules.proofs.Serving.{modeOf, clockOf, capacity-is, serves-by, serves-told, serves-means}
 use Rattle.rules.proofs.Shapes.{Tables}
 use Rattle.rules.proofs.StationFacts.{Right, right-of, minload-most}
 use Rattle.rules.proofs.Tables.{length-tab, tab-at, has-beyond}
@@ -36,7 +36,8 @@ use Rattle.laws.specs.Admitted.{Admitted}
 use Rattle.laws.proofs.AtRating.{share-full}
 use Rattle.laws.proofs.Balance as balance
 use Rattle.laws.proofs.Called.{chosen-covers}
-use Rattle.laws.proofs.Kept.{record-kept}
+use Rattle.laws.proofs.Kept.{diesel-cap, record-kept}
+use Rattle.laws.proofs.Share.{all-shared}
 use Rattle.claims_rules.specs.Shown.{numbersIn, inColumns, shownIn, shown, Worked}
 use Rattle.claims_rules.specs.Replay.{replayOf, modesIn, modeIn, servedIn, clocksIn, clockIn, countsIn, heldIn, following}
 use Rattle.claims_rules.specs.InRow.{AllServing, InRow}
@@ -90,6 +91,7 @@ clocks-follow st r x =
 pub follows : (st : Station) (r : Run) (x : Inputs) → following st (replayOf r) (workedAt st r x) ≡ replayOf (step st r x .run)
 unfolding following countsIn modesIn heldIn workedAt step recordAfter rowAfter commandedNow ranNow statesNow heldNow
 follows st r x = ap (λ (clocks : List ℕ). record {
+  second = step st r x .run .done;
   sets = step st r x .run .sets;
   clocks = clocks;
   setpoint = step st r x .run .setpoint;
@@ -156,11 +158,20 @@ module _ (st : Station) (tables : Tables st) (r : Run) (x : Inputs) (h : Admitte
   all-serving some =
       let a = balance.unserved-last (st .battery) (r .store) (capNow st r) (floorNow st r) (getD (r .decided) 0 0) x (balance.floor-most st (onNow st r) (minload-most (st .setcount) (st .control) (right .control))) some in
       record {
+        diesel-full = a .diesel-full ∙ sym (capacity-is (st .sets) (onNow st r) (tables .sets-length));
         at-rating = λ i e. ap (λ (d : ℕ). share (st .sets) (onNow st r) d i) (a .diesel-full) ∙ share-full (st .sets) (onNow st r) i (on-few i e) e;
         none-spilled = a .none-spilled;
         none-charged = a .none-charged;
         battery-full = a .battery-full;
       }
+
+  diesel-inside : w .diesel ≤ capacity (st .sets) (onNow st r)
+  unfolding wattsNow wattsFor wattsWith capNow
+  diesel-inside = diesel-cap (capNow st r) _
+
+  shed-inside : w .shed ≤ x .sheddable
+  unfolding wattsNow wattsFor wattsWith
+  shed-inside = balance.shed-most (x .sheddable) (getD (r .decided) 0 0)
 
   -- ---- the called configuration
 
@@ -189,8 +200,13 @@ module _ (st : Station) (tables : Tables st) (r : Run) (x : Inputs) (h : Admitte
   pub in-row : InRow st (replayOf r) (workedAt st r x)
   unfolding workedAt step rowAfter modesIn heldIn onNow statesNow heldNow onMask
   in-row = record {
-    on-line = λ i l. mask-has (λ j. isOn (modeIn st (replayOf r) j)) 8 i l;
-    on-few = mask-below 8 (λ j. isOn (modeIn st (replayOf r) j));
+    on-line = λ i e. on-told (modeIn st (replayOf r) i) (sym (mask-has (λ j. isOn (modeIn st (replayOf r) j)) 8 i (on-few i e)) ∙ e);
+    all-on-line = λ i l e. mask-has (λ j. isOn (modeIn st (replayOf r) j)) 8 i l ∙ ap isOn e;
+    sets-counted = refl;
+    numbered = refl;
+    diesel-shared = all-shared (st .sets) (onNow st r) (w .diesel) diesel-inside;
+    diesel-most = subst (λ (n : ℕ). w .diesel ≤ n) (sym (capacity-is (st .sets) (onNow st r) (tables .sets-length))) diesel-inside;
+    shed-most = shed-inside;
     store-least = after-within .0;
     store-most = after-within .1;
     unserved = all-serving;

@@ -11,11 +11,10 @@ use Rattle.rules.specs.declared.run.Run.{Run}
 use Rattle.rules.specs.declared.run.Step.{Step}
 use Rattle.rules.specs.Bytes.{LF, parts}
 use Rattle.rules.specs.Answers.{Answer, accepted, refused}
-use Rattle.rules.specs.Modes.{stateAt}
 use Rattle.rules.specs.RunRecord.{startRecord}
 use Rattle.rules.specs.Row.{rowText}
 use Rattle.claims_rules.specs.Shown.{Worked, rowsOf}
-use Rattle.claims_rules.specs.Claim.{secondBy, OverRows, LastRecord}
+use Rattle.claims_rules.specs.Claim.{secondBy, countedBy, OverRows, LastRecord}
 
 -- what a caller sees: the seconds asked and the buffer lent; the record handed back, how many seconds were accepted, how many bytes their
 -- rows have, what ended them, and the buffer as it is left
@@ -100,5 +99,5 @@ pub data ChainedBatches (One : Run → Batch → Type 0) : Run → List Batch �
 pub record ClaimBatches (st : Station) (first : Run) (batches : List Batch) (last : Run) : Type 0 where
   pub as-ruled : map toldBatch batches ≡ ruledBatches st (map askedBatch batches)
   pub kept : ChainedBatches KeptBatch first batches last
-  pub over-rows : OverRows st (rowsInBatches batches) (last .store) (λ i. stateAt (last .sets) i .fuel)
+  pub over-rows : OverRows st (rowsInBatches batches) (last .store) (countedBy last)
   pub last-record : LastRecord st (rowsInBatches batches) last

@@ -20,7 +20,7 @@ use Rattle.rules.specs.Calls.{Call, Chained}
 use Rattle.claims_rules.specs.Shown.{Worked, shown, total}
 use Rattle.claims_rules.specs.Replay.{replayOf, followedTo, atFirst, replayed}
 use Rattle.claims_rules.specs.InRow.{InRows}
-use Rattle.claims_rules.specs.Burned.{powersOf, Burned}
+use Rattle.claims_rules.specs.Burned.{powersOf, sumOf, Burned}
 
 -- ---- what the calls came to, as the caller sees it
 
@@ -72,8 +72,17 @@ abbrev pub metBy : List Worked → ℕ
 metBy rows =
     total (λ s. s .row .diesel) rows + total (λ s. s .row .solar) rows + total (λ s. s .row .give) rows + total (λ s. s .row .shed) rows + total (λ s. s .row .unserved) rows
 
--- of the rows from the start, and of the store and each set's fuel count after them
-pub record OverRows (st : Station) (rows : List Worked) (store : ℕ) (fuel : ℕ → ℕ) : Type 0 where
+-- what is counted of a set
+pub record Counted : Type 0 where
+  pub run : ℕ
+  pub energy : ℕ
+  pub fuel : ℕ
+
+abbrev pub countedBy : Run → ℕ → Counted
+countedBy r i = record { run = stateAt (r .sets) i .run; energy = stateAt (r .sets) i .energy; fuel = stateAt (r .sets) i .fuel }
+
+-- of the rows from the start, and of the store and each set's counts after them
+pub record OverRows (st : Station) (rows : List Worked) (store : ℕ) (counts : ℕ → Counted) : Type 0 where
   -- "summed over the accepted ones, load handed in and load shown each equal diesel + solar on the load + given + shed + unserved"
   pub load-handed : total (λ s. s .inputs .load) rows ≡ metBy rows
   pub load-shown : total (λ s. s .row .load) rows ≡ metBy rows
@@ -86,7 +95,10 @@ pub record OverRows (st : Station) (rows : List Worked) (store : ℕ) (fuel : �
   -- the store's limits, load unserved and the called configuration
   pub each-row : InRows st (replayed st (atFirst st) rows)
   -- "Each fuel count": of every set
-  pub fuel-burned : (i : ℕ) → i < st .setcount → Burned (setAt (st .sets) i) (fuel i) (powersOf st i (replayed st (atFirst st) rows))
+  pub fuel-burned : (i : ℕ) → i < st .setcount → Burned (setAt (st .sets) i) (counts i .fuel) (powersOf st i (replayed st (atFirst st) rows))
+  -- and its seconds run and its energy are those of the rows
+  pub run-counted : (i : ℕ) → i < st .setcount → counts i .run ≡ length (powersOf st i (replayed st (atFirst st) rows))
+  pub energy-counted : (i : ℕ) → i < st .setcount → counts i .energy ≡ sumOf (powersOf st i (replayed st (atFirst st) rows))
 
 -- ---- what the record last handed back holds
 
@@ -119,13 +131,24 @@ pub record LastRecord (st : Station) (rows : List Worked) (last : Run) : Type 0 
 
 -- ---- the claim
 
--- One call: "A refused call hands the run's record back unchanged and writes nothing to a lent buffer"; an accepted one moves the
--- seconds done by one, its row fits, and "bytes past the row stay".
+-- an accepted call moves the seconds done by one, its row fits, and "bytes past the row stay"
+pub record Moved (r : Run) (c : Call) (size : ℕ) : Type 0 where
+  pub second-done : c .handed .run .done ≡ r .done + 1
+  pub rest-stays : c .left ≡ take size (c .left) ++ drop size (c .lent)
+  pub row-fits : (size ≤ 153) × (size ≤ length (c .lent))
+
+-- "A refused call hands the run's record back unchanged and writes nothing to a lent buffer"
+pub record Unmoved (r : Run) (c : Call) : Type 0 where
+  pub record-kept : c .handed .run ≡ r
+  pub buffer-kept : c .left ≡ c .lent
+
+abbrev pub KeptBy : Answer ℕ → Run → Call → Type 0
+KeptBy (accepted size) r c = Moved r c size
+KeptBy (refused number place) r c = Unmoved r c
+
+-- one call
 pub record Kept (r : Run) (c : Call) : Type 0 where
-  pub refused-keeps : (number place : ℕ) → outcomeOf (c .handed .answer) ≡ refused number place → (c .handed .run ≡ r) × (c .left ≡ c .lent)
-  pub accepted-moves : (size : ℕ) → outcomeOf (c .handed .answer) ≡ accepted size → c .handed .run .done ≡ r .done + 1
-  pub rest-stays : (size : ℕ) → outcomeOf (c .handed .answer) ≡ accepted size → c .left ≡ take size (c .left) ++ drop size (c .lent)
-  pub row-fits : (size : ℕ) → outcomeOf (c .handed .answer) ≡ accepted size → (size ≤ 153) × (size ≤ length (c .lent))
+  pub by-answer : KeptBy (outcomeOf (c .handed .answer)) r c
   pub length-stays : length (c .left) ≡ length (c .lent)
 
 -- of a list of calls from the record `first` to the record `last`
@@ -134,5 +157,5 @@ pub record Claim (st : Station) (first : Run) (calls : List Call) (last : Run) :
   pub as-ruled : map told calls ≡ ruled st (map asked calls)
   pub kept : Chained Kept first calls last
   -- "The store after the list and the fuel counts are those of the record last handed back."
-  pub over-rows : OverRows st (workedIn calls) (last .store) (λ i. stateAt (last .sets) i .fuel)
+  pub over-rows : OverRows st (workedIn calls) (last .store) (countedBy last)
   pub last-record : LastRecord st (workedIn calls) last

@@ -16,7 +16,7 @@ use Rattle.rules.specs.Row.{rowHeading, setHeading, setLines}
 use Rattle.rules.specs.Run.{inputsOf}
 use Rattle.rules.specs.Calls.{Call}
 use Rattle.claims_rules.specs.Shown.{numbersIn, Worked, rowsOf}
-use Rattle.claims_rules.specs.Claim.{told, OverRows}
+use Rattle.claims_rules.specs.Claim.{told, Counted, OverRows}
 
 -- the lines of a text, and what stands after its last LF
 abbrev pub linesOf : List ℕ → List (List ℕ)
@@ -43,8 +43,8 @@ storeAfter store (s ∷ ss) = storeAfter (s .row .store) ss
 abbrev pub setNumbers : ℕ → List ℕ → ℕ → List ℕ
 setNumbers n text i = numbersIn (lineOf text (n + 2 + i))
 
-abbrev pub fuelPrinted : ℕ → List ℕ → ℕ → ℕ
-fuelPrinted n text i = getD (setNumbers n text i) 5 0
+abbrev pub countsPrinted : ℕ → List ℕ → ℕ → Counted
+countsPrinted n text i = record { run = getD (setNumbers n text i) 1 0; energy = getD (setNumbers n text i) 4 0; fuel = getD (setNumbers n text i) 5 0 }
 
 pub record Printed (st : Station) (samples : List Sample) (n : ℕ) (text : List ℕ) : Type 0 where
   -- the heading, n rows, the sets' heading, a line for each set, and nothing after its LF
@@ -54,7 +54,7 @@ pub record Printed (st : Station) (samples : List Sample) (n : ℕ) (text : List
   pub set-numbered : (i : ℕ) → i < st .setcount → getD (setNumbers n text i) 0 0 ≡ suc i
   pub nothing-after : lineOf text (n + 2 + st .setcount) ≡ []
   -- demand 3, of the text's own numbers
-  pub over-rows : OverRows st (printedRows samples n text) (storeAfter (st .battery .start) (printedRows samples n text)) (fuelPrinted n text)
+  pub over-rows : OverRows st (printedRows samples n text) (storeAfter (st .battery .start) (printedRows samples n text)) (countsPrinted n text)
 
 -- ---- and the text is that of a list of calls
 

@@ -22,6 +22,8 @@ use Rattle.claims_rules.specs.Shown.{Worked}
 
 -- what is followed into a second
 pub record Replay : Type 0 where
+  -- how many there were before it
+  pub second : ℕ
   pub sets : List SetState
   -- of each set the seconds run since its last service
   pub clocks : List ℕ
@@ -37,6 +39,7 @@ pub record Replay : Type 0 where
 unfoldable pub atFirst : Station → Replay
 atFirst st =
     record {
+      second = 0;
       sets = tab 8 (λ i. fresh (if has (st .control .online) i then On else Off));
       clocks = replicate 8 0;
       setpoint = Absent;
@@ -76,12 +79,13 @@ heldIn st p s =
 unfoldable pub following : Station → Replay → Worked → Replay
 following st p s =
     record {
+      second = p .second + 1;
       sets = commandedAll (st .sets) (countsIn st p s) (maskCalled (st .configs) (s .row .call));
       clocks = clocksIn st p s;
       setpoint = At (heldIn st p s);
       store = s .row .store;
       called = s .row .call;
-      changed = if eqb (s .row .call) (p .called) then p .changed else s .row .second;
+      changed = if eqb (s .row .call) (p .called) then p .changed else p .second;
     }
 
 -- after the last second
@@ -102,6 +106,7 @@ replayed st p (s ∷ ss) = record { before = p; worked = s } ∷ replayed st (fo
 abbrev pub replayOf : Run → Replay
 replayOf r =
     record {
+      second = r .done;
       sets = r .sets;
       clocks = tab 8 (λ i. stateAt (r .sets) i .clock);
       setpoint = r .setpoint;

@@ -40,7 +40,7 @@ use Rattle.laws.proofs.Balance.{store-least, store-most}
 use Rattle.laws.proofs.KeptSets.{existing-kept, other-kept}
 use Rattle.laws.proofs.KeptRest.{chosen-most, since-most, watts-small, totals-kept, shed-decided-most, decided-kept}
 
-diesel-cap : (cap rest : ℕ) → dieselFor cap rest ≤ cap
+pub diesel-cap : (cap rest : ℕ) → dieselFor cap rest ≤ cap
 unfolding dieselFor
 diesel-cap cap rest = omega arith
 

@@ -1,11 +1,12 @@
 -- Document 01, step 6: the shares of a mask's sets sum to the diesel, each is "within one watt of its proportion", and a set
 -- that the mask has not takes nothing. Assumes nothing.
 use Prim.Native.Nat.{ℕ, zero, suc, _+_, _-_, _*_, _/_, _≤_, _<_}
-use mathlib.Core.Path.{_≡_, refl, _∙_}
+use mathlib.Core.Path.{_≡_, refl, sym, _∙_}
 use mathlib.Core.Bool.{Bool, true, false}
 use mathlib.Core.List.{List}
 use native.Mathlib.Omega.{arith}
-use native.Mathlib.Nat.{le-trans, mul-zero, mul-add, mul-comm, mul-sub, mul-le-mul-left, zero-div, mul-div-cancel, div-mul-le-self, lt-div-mul-add, mul-div-le, le-div-iff-mul-le, mul-le-mul-right, div-zero, add-mul-div-right}
+use native.Mathlib.Decide.{decLt}
+use native.Mathlib.Nat.{le-trans, zero-mul, mul-zero, mul-add, mul-comm, mul-sub, mul-le-mul-left, zero-div, mul-div-cancel, div-mul-le-self, lt-div-mul-add, mul-div-le, le-div-iff-mul-le, mul-le-mul-right, div-zero, add-mul-div-right}
 use Rattle.rules.specs.declared.station.GenSet.{GenSet}
 use Rattle.rules.specs.Numbers.{has, sumTo}
 use Rattle.rules.specs.StationRecord.{setAt}
@@ -54,6 +55,21 @@ module _ (sets : List GenSet) (mask : ℕ) where
     pub shares-sum : 0 < capacity sets mask → sumTo 8 (share sets mask diesel) ≡ diesel
     unfolding taken capacity
     shares-sum some = taken-together some 8 ∙ mul-div-cancel diesel some
+
+    -- where there is no set there is no diesel to share
+    none-shared : diesel ≡ 0 → (n : ℕ) → sumTo n (share sets mask diesel) ≡ 0
+    unfolding sumTo share
+    none-shared e zero = refl
+    none-shared e (suc n) =
+        let here : share sets mask diesel n ≡ 0 = rw (e, zero-mul (runningTotal sets mask (suc n)), zero-mul (runningTotal sets mask n)) (omega arith) in
+        omega (arith, here, none-shared e n)
+
+    pub all-shared : diesel ≤ capacity sets mask → sumTo 8 (share sets mask diesel) ≡ diesel
+    all-shared h = go (decLt 0 (capacity sets mask))
+      where
+        go : Dec (0 < capacity sets mask) → sumTo 8 (share sets mask diesel) ≡ diesel
+        go (yes some) = shares-sum some
+        go (no none) = let e : diesel ≡ 0 = omega (arith, none) in none-shared e 8 ∙ sym e
 
     pub share-outside : (i : ℕ) → has mask i ≡ false → share sets mask diesel i ≡ 0
     unfolding share

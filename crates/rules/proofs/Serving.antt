@@ -96,7 +96,7 @@ ratings-are mask i (g ∷ gs) =
     sum-same (length gs) (rated mask (suc i) gs) (λ k. rated mask i (g ∷ gs) (suc k)) (λ k. ap (λ (n : ℕ). if has mask n then setAt gs k .rating else 0) (let e : suc i + k ≡ i + suc k = omega arith in e)) in
     omega (arith, here, there, ratings-are mask (suc i) gs, sum-front (length gs) (rated mask i (g ∷ gs)))
 
-capacity-is : (sets : List GenSet) (mask : ℕ) → length sets ≡ 8 → ratingsFrom mask 0 sets ≡ capacity sets mask
+pub capacity-is : (sets : List GenSet) (mask : ℕ) → length sets ≡ 8 → ratingsFrom mask 0 sets ≡ capacity sets mask
 unfolding capacity runningTotal
 capacity-is sets mask e = ratings-are mask 0 sets ∙ rw e (sum-same 8 (rated mask 0 sets) (λ i. if has mask i then setAt sets i .rating else 0) (λ k. ap (λ (n : ℕ). if has mask n then setAt sets k .rating else 0) (zero-add k)))
 

@@ -1,6 +1,6 @@
 -- The request's demand 3: "Each row's called configuration is usable and covers the held setpoint, unless none does." What a
--- configuration that serves is, in the words of document 01's step 10 alone. Nothing here tests a mask as the rules do, so that a
--- mistake there is not shared; proofs/Serving.antt has that the rules' test is this.
+-- configuration that serves is, in the words of document 01's step 10: for every set, and not by the rules' test, so that a mistake
+-- there is not shared; proofs/Serving.antt has that the rules' test is this.
 use Prim.Native.Nat.{ℕ, zero, suc, _+_, _≤_, _<_}
 use mathlib.Core.Path.{_≡_}
 use mathlib.Core.Bool.{true}
