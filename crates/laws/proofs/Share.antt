@@ -28,7 +28,7 @@ module _ (sets : List GenSet) (mask : ℕ) where
   unfolding runningTotal sumTo
   total-rises i = omega arith
 
-  total-has : (i : ℕ) → has mask i ≡ true → runningTotal sets mask (suc i) ≡ runningTotal sets mask i + setAt sets i .rating
+  pub total-has : (i : ℕ) → has mask i ≡ true → runningTotal sets mask (suc i) ≡ runningTotal sets mask i + setAt sets i .rating
   unfolding runningTotal sumTo
   total-has i h = rw h
 
