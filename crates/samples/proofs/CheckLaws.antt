@@ -6,12 +6,12 @@ use mathlib.Core.List.{List, [], _∷_, _++_, append-nil}
 use native.Mathlib.Omega.{arith}
 use lib.ListN.{length}
 use Rattle.rules.specs.declared.samples.Sample.{Sample}
-use Rattle.rules.specs.Answers.{Answer, accepted, refused, refusalOf, judged, _>>=_}
+use Rattle.rules.specs.Answers.{Answer, accepted, refused, refusalOf, judged, _>>=_, _>>_}
 use Rattle.rules.specs.SampleFile.{sampleFile}
 use Rattle.rules.specs.Sizing.{sampleCheck}
 use Rattle.samples.specs.declared.stage.Found.{Found}
 use Rattle.samples.specs.declared.check.Span.{Span}
-use Rattle.samples.specs.ToCome.{mostPlace, placed, rowFirst}
+use Rattle.samples.specs.ToCome.{mostPlace, placed, RowsRead, fileRows, rowFirst}
 use Rattle.samples.specs.declared.reader.SampleReader.{SampleReader}
 use Rattle.samples.specs.declared.reader.Pulled.{Pulled}
 use Rattle.samples.specs.declared.reader.Ending.{Ending}
@@ -20,13 +20,13 @@ use Rattle.samples.specs.declared.check.Checked.{Checked}
 use Rattle.rules.specs.declared.answers.Refusal.{Refusal}
 use Rattle.samples.specs.Streamed.{yetToCome, isRow, PulledRight, endingOf, lastTime, spanOf, sheetSpan, oneMore, spanAfter, spanned, checkedWith, checkedOf}
 use Rattle.samples.proofs.PlaceBound.{stays-bind, file-place}
+use Rattle.samples.proofs.LineLaws.{file-answer}
 
 -- a row that was found is counted before those that follow it
-pub found-counted : (s : Span) (f : Found) (a : Answer (List Sample)) → spanned s (rowFirst f a) ≡ spanned (oneMore s f) a
+pub found-counted : (s : Span) (f : Found) (r : RowsRead) → spanned s (rowFirst f r) ≡ spanned (oneMore s f) r
 unfolding spanAfter
-found-counted s (Found.Row x) (accepted rows) = refl
-found-counted s (Found.Row x) (refused number place) = refl
-found-counted s Found.Nothing a = refl
+found-counted s (Found.Row x) r = refl
+found-counted s Found.Nothing r = refl
 
 -- one more, up to what 64 bits hold
 pub one-more : (rows : ℕ) → rows < mostPlace → rows + 1 ≡ min (suc rows) mostPlace
@@ -52,11 +52,18 @@ all-counted rows =
 
 -- ---- a check and its reader
 
-pub from-reader : (r : SampleReader) (rest : List ℕ) → yetToCome r rest ≡ placed (sampleFile rest) → checkedWith (record { reader = r; span = record { rows = 0; last = 0 } }) rest ≡ placed (sheetSpan rest)
+pub from-reader : (r : SampleReader) (rest : List ℕ) → yetToCome r rest ≡ fileRows rest → checkedWith (record { reader = r; span = record { rows = 0; last = 0 } }) rest ≡ placed (sheetSpan rest)
 unfolding checkedWith sheetSpan
-from-reader r rest e = ap (spanned (record { rows = 0; last = 0 })) e ∙ from-nothing (sampleFile rest)
+from-reader r rest e = ap (spanned (record { rows = 0; last = 0 })) e ∙ of-rows (fileRows rest .verdict) (fileRows rest .rows) ∙ ap ofAnswer (file-answer rest) ∙ from-nothing (sampleFile rest)
   where
-    from-nothing : (a : Answer (List Sample)) → spanned (record { rows = 0; last = 0 }) (placed a) ≡ placed (a >>= λ (rows : List Sample). accepted (spanOf rows))
+    ofAnswer : Answer (List Sample) → Answer Span
+    ofAnswer a = a >>= λ (rows : List Sample). accepted (spanAfter (record { rows = 0; last = 0 }) rows)
+
+    of-rows : (v : Answer (Unit {0})) (rows : List Sample) → (v >> accepted (spanAfter (record { rows = 0; last = 0 }) rows)) ≡ ofAnswer (v >> accepted rows)
+    of-rows (accepted u) rows = refl
+    of-rows (refused number place) rows = refl
+
+    from-nothing : (a : Answer (List Sample)) → ofAnswer (placed a) ≡ placed (a >>= λ (rows : List Sample). accepted (spanOf rows))
     from-nothing (accepted rows) = ap accepted (all-counted rows)
     from-nothing (refused number place) = refl
 

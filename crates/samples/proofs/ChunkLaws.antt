@@ -1,12 +1,11 @@
 -- How a file is cut into chunks changes nothing, of any calls that owe what the contracts of `feed` and `pull` say. Assumes nothing.
 use Prim.Native.Nat.{ℕ}
-use mathlib.Core.Path.{_≡_, refl, ap, _∙_}
+use mathlib.Core.Path.{_≡_, refl, sym, ap, _∙_}
 use mathlib.Core.Bool.{true}
 use mathlib.Core.List.{List, [], _∷_, _++_, append-assoc}
 use lib.ListN.{length, drop}
 use lib.Seq.{drop-length}
 use Rattle.rules.specs.declared.samples.Sample.{Sample}
-use Rattle.rules.specs.Answers.{Answer, accepted, refused}
 use Rattle.rules.proofs.Tests.{never}
 use Rattle.samples.specs.declared.stage.Stage.{Stage}
 use Rattle.samples.specs.declared.stage.Found.{Found}
@@ -15,6 +14,7 @@ use Rattle.samples.specs.declared.check.SampleCheck.{SampleCheck}
 use Rattle.samples.specs.ToCome.{toCome, rowFirst}
 use Rattle.samples.specs.Streamed.{yetToCome, isRow, PulledRight, checkedWith, linesAfter, begunIn, spanned, isRefused}
 use Rattle.samples.specs.Chunks.{joined, Feeds, Pulls, leftAt, rowsThen}
+use Rattle.samples.proofs.StageLaws.{refused-read}
 
 -- what a call of `feed` owes, in its contract's words
 abbrev pub FedRight : SampleCheck → List ℕ → SampleCheck → Type 0
@@ -29,22 +29,14 @@ feeds-right {c} (Feeds.more {chunk = chunk} {chunks = chunks} one later) rest =
 
 -- once a line was refused, no rest of the file changes the answer
 pub refused-for-good : (c : SampleCheck) (rest : List ℕ) → isRefused (c .reader .stage) ≡ true → checkedWith c [] ≡ checkedWith c rest
-unfolding checkedWith yetToCome toCome
+unfolding checkedWith yetToCome
 refused-for-good c rest h = go (c .reader .stage) h
   where
     go : (s : Stage) → isRefused s ≡ true → spanned (c .span) (toCome s (linesAfter (begunIn (c .reader)) [])) ≡ spanned (c .span) (toCome s (linesAfter (begunIn (c .reader)) rest))
     go Stage.Heading e = never e
     go (Stage.FirstRow columns) e = never e
     go (Stage.LaterRows columns last n) e = never e
-    go (Stage.Refused r) e = refl
-
-one-more : (x : Sample) (rows : List Sample) (a : Answer (List Sample)) → rowFirst (Found.Row x) (rowsThen rows a) ≡ rowsThen (x ∷ rows) a
-one-more x rows (accepted others) = refl
-one-more x rows (refused number place) = refl
-
-no-rows : (a : Answer (List Sample)) → a ≡ rowsThen [] a
-no-rows (accepted others) = refl
-no-rows (refused number place) = refl
+    go (Stage.Refused r) e = ap (spanned (c .span)) (refused-read r (linesAfter (begunIn (c .reader)) []) ∙ sym (refused-read r (linesAfter (begunIn (c .reader)) rest)))
 
 pub left-next : (chunks : List (List ℕ)) → joined chunks ≡ leftAt 0 chunks
 unfolding joined
@@ -53,12 +45,11 @@ left-next (chunk ∷ chunks) = refl
 
 pub pulls-right : {m last : SampleReader} {at : ℕ} {chunks : List (List ℕ)} {rows : List Sample} → Pulls PulledRight m at chunks rows last
     → yetToCome m (leftAt at chunks) ≡ rowsThen rows (yetToCome last [])
-pulls-right {m} Pulls.none = no-rows (yetToCome m [])
+pulls-right Pulls.none = refl
 pulls-right {last = last} (Pulls.row {chunk = chunk} {chunks = chunks} {rows = rows} p x one is rest) =
     one .rows (joined chunks)
     ∙ ap (λ (f : Found). rowFirst f (yetToCome (p .reader) (drop (p .next) chunk ++ joined chunks))) is
     ∙ ap (rowFirst (Found.Row x)) (pulls-right rest)
-    ∙ one-more x rows (yetToCome last [])
 pulls-right {last = last} (Pulls.next {chunk = chunk} {chunks = chunks} {rows = rows} p one is rest) =
     let e : p .next ≡ length chunk = one .exhausted (ap isRow is) in
     let d : drop (p .next) chunk ++ joined chunks ≡ leftAt 0 chunks =

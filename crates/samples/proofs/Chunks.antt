@@ -19,10 +19,11 @@ use Rattle.samples.specs.declared.reader.Pulled.{Pulled}
 use Rattle.samples.specs.declared.reader.Ending.{Ending}
 use Rattle.samples.specs.declared.check.SampleCheck.{SampleCheck}
 use Rattle.samples.specs.declared.check.Checked.{Checked}
-use Rattle.samples.specs.ToCome.{mostPlace, placed}
+use Rattle.samples.specs.ToCome.{mostPlace, placed, fileRows, answerOf}
 use Rattle.samples.specs.Streamed.{yetToCome, PulledRight, endingOf, sheetSpan, checkedWith, checkedOf, isRefused}
 use Rattle.samples.specs.Chunks.{joined, Feeds, Pulls, leftAt, rowsThen}
 use Rattle.samples.proofs.PlaceBound.{file-place}
+use Rattle.samples.proofs.LineLaws.{file-answer}
 use Rattle.samples.proofs.CheckLaws.{span-place, span-judged}
 use Rattle.samples.proofs.ChunkLaws.{FedRight, feeds-right, refused-for-good, left-next, pulls-right}
 use Rattle.samples.proofs.check.check.Reads as check-reads
@@ -151,16 +152,18 @@ check-streamed chunks first last v h b f e =
     let p : checkedOf v ≡ sheetSpan (joined chunks) = check-of-chunks chunks first last v b f e ∙ span-place (joined chunks) h in
     (p, ap judged p ∙ span-judged (joined chunks))
 
--- ---- THE ROWS, over every list of chunks: those pulled, and the last line's where it has no LF
+-- ---- THE ROWS, over every list of chunks: those pulled, and the last line's where it has no LF; of a refused file those of the lines
+-- before the refused one, beside the refusal
 
 pub rows-of-chunks : (chunks : List (List ℕ)) (first last : SampleReader) (rows : List Sample) (e : Ending) → Opened first → Pulls PulledBy first 0 chunks rows last → Ended last e
-    → rowsThen rows (endingOf e) ≡ placed (sampleFile (joined chunks))
+    → rowsThen rows (endingOf e) ≡ fileRows (joined chunks)
 rows-of-chunks chunks first last rows e o p z =
     let q : endingOf e ≡ yetToCome (z .args .0) [] = z .returned in
-    let r : (rest : List ℕ) → yetToCome first rest ≡ placed (sampleFile rest) = o .returned in
-    ap (rowsThen rows) (q ∙ ap (λ (m : SampleReader). yetToCome m []) (z .passed)) ∙ sym (pulls-right (pulls-owe p)) ∙ r (leftAt 0 chunks) ∙ ap (λ (s : List ℕ). placed (sampleFile s)) (sym (left-next chunks))
+    let r : (rest : List ℕ) → yetToCome first rest ≡ fileRows rest = o .returned in
+    ap (rowsThen rows) (q ∙ ap (λ (m : SampleReader). yetToCome m []) (z .passed)) ∙ sym (pulls-right (pulls-owe p)) ∙ r (leftAt 0 chunks) ∙ ap fileRows (sym (left-next chunks))
 
+-- of a file of less than 2^64 bytes: document 01's rows, or its refusal and its place
 pub rows-streamed : (chunks : List (List ℕ)) (first last : SampleReader) (rows : List Sample) (e : Ending) → length (joined chunks) ≤ mostPlace
     → Opened first → Pulls PulledBy first 0 chunks rows last → Ended last e
-    → rowsThen rows (endingOf e) ≡ sampleFile (joined chunks)
-rows-streamed chunks first last rows e h o p z = rows-of-chunks chunks first last rows e o p z ∙ file-place (joined chunks) h
+    → answerOf (rowsThen rows (endingOf e)) ≡ sampleFile (joined chunks)
+rows-streamed chunks first last rows e h o p z = ap answerOf (rows-of-chunks chunks first last rows e o p z) ∙ file-answer (joined chunks) ∙ file-place (joined chunks) h

@@ -1,22 +1,21 @@
 -- The row in force at a second, of the rows that are ahead; and the end of the file. Assumes nothing.
-use Prim.Native.Nat.{ℕ, zero, suc, _+_, _-_, _≤_, _<_, min}
+use Prim.Native.Nat.{ℕ, zero, suc, _+_, _≤_, _<_, min, max}
 use mathlib.Core.Path.{_≡_, refl, sym, ap, subst, _∙_}
-use mathlib.Core.Bool.{Bool, true, false}
+use mathlib.Core.Bool.{Bool, true, false, not}
 use mathlib.Core.List.{List, [], _∷_, _++_}
 use native.Mathlib.Omega.{arith}
 use lib.Dec.{leb}
 use lib.ListN.{length, drop}
 use lib.Seq.{drop-drop}
-use borrow.Author.Tests.{le-leb, leb-true}
+use borrow.Author.Tests.{le-leb, leb-true, leb-false}
 use Rattle.rules.specs.declared.samples.Sample.{Sample}
 use Rattle.rules.specs.declared.run.Inputs.{Inputs}
 use Rattle.rules.specs.Numbers.{if_then_else_}
-use Rattle.rules.specs.Answers.{Answer, accepted, refused}
+use Rattle.rules.specs.Answers.{accepted, isAccepted}
 use Rattle.rules.specs.Lines.{Line}
 use Rattle.rules.specs.SampleFile.{holding}
 use Rattle.rules.specs.Run.{inputsOf}
 use Rattle.rules.proofs.Tests.{never}
-use Rattle.rules.proofs.Checks.{not-accepted, same-value}
 use Rattle.samples.specs.declared.stage.Stage.{Stage}
 use Rattle.samples.specs.declared.stage.Found.{Found}
 use Rattle.samples.specs.declared.reader.NextRow.{NextRow}
@@ -25,10 +24,11 @@ use Rattle.samples.specs.declared.inputs.Ahead.{Ahead}
 use Rattle.samples.specs.declared.inputs.InputSource.{InputSource}
 use Rattle.samples.specs.declared.inputs.InForce.{InForce}
 use Rattle.samples.specs.declared.inputs.Begun.{Begun}
-use Rattle.samples.specs.ToCome.{toCome, rowFirst}
+use Rattle.samples.specs.ToCome.{RowsRead, toCome, rowFirst, allRead}
 use Rattle.samples.specs.Streamed.{yetToCome, linesAfter, begunIn, isRow, isRefused, NextRight, endingOf}
-use Rattle.samples.specs.Held.{rowsAhead, sourceRows, isEnded, refusedAhead, sourceRefused, heldFrom, Onward, lastComesIn, comesIn, readerAt, ReachedRight, aheadAtEnd, EndedRight}
+use Rattle.samples.specs.Held.{rowsAhead, sourceRows, isEnded, isRefusal, refusedAhead, sourceRefused, heldFrom, latest, Onward, Tellable, lastComesIn, comesIn, readerAt, ReachedRight, aheadAtEnd, atEndOf, EndedRight}
 use Rattle.samples.proofs.LineLaws.{drop-least}
+use Rattle.samples.proofs.StageLaws.{refused-read}
 
 -- ---- rows that are held
 
@@ -57,78 +57,81 @@ pub held-none : (now : Sample) (rows : List Sample) (t : ℕ) → heldFrom now r
 unfolding heldFrom
 held-none now rows t = refl
 
+-- the greatest time
+pub latest-none : latest [] ≡ 0
+unfolding latest
+latest-none = refl
+
+pub latest-of : (x : Sample) (rows : List Sample) → latest (x ∷ rows) ≡ max (x .at) (latest rows)
+unfolding latest
+latest-of x rows = refl
+
 pub onward-same : (now : Sample) (rows : List Sample) (t : ℕ) → Onward now rows t now rows
-onward-same now rows t = record { passed = 0; last = refl; held = λ n. refl }
+onward-same now rows t = record { passed = 0; last = refl; held = λ n. refl; came = λ m h k. k }
 
 onward-in : (now x : Sample) (rows : List Sample) (t : ℕ) → x .at ≤ t → Onward now (x ∷ rows) t x rows
-onward-in now x rows t h = record { passed = 1; last = refl; held = λ n. in-force now x rows t n h }
+onward-in now x rows t h = record { passed = 1; last = refl; held = λ n. in-force now x rows t n h; came = λ m k l. let e = latest-of x rows in omega (arith, e) }
 
 pub onward-then : {now₀ now₁ now₂ : Sample} {rows₀ rows₁ rows₂ : List Sample} {t : ℕ} → Onward now₀ rows₀ t now₁ rows₁ → Onward now₁ rows₁ t now₂ rows₂ → Onward now₀ rows₀ t now₂ rows₂
 onward-then {now₀} {rows₀ = rows₀} p q = record {
   passed = p .passed + q .passed;
   last = sym (drop-drop (q .passed) (p .passed) (now₀ ∷ rows₀)) ∙ ap (drop (q .passed)) (p .last) ∙ q .last;
   held = λ n. p .held n ∙ q .held n;
+  came = λ m h k. p .came m h (q .came m h k);
 }
 
 -- ---- of the rows that are known
 
 -- where what is after the rows that are known comes to `a`
-pub record CameIn (now : Sample) (rows : List Sample) (t : ℕ) (a : Answer (List Sample)) (k : InForce) : Type 0 where
-  pub others : List Sample
-  pub comes : rowsAhead (k .ahead) a ≡ accepted others
-  pub onward : Onward now rows t (k .now) others
-  pub force : k .unread ≡ false → holding (k .now) others t ≡ k .now
+pub record CameIn (now : Sample) (before : RowsRead) (t : ℕ) (a : RowsRead) (k : InForce) : Type 0 where
+  pub verdict : rowsAhead (k .ahead) a .verdict ≡ before .verdict
+  pub onward : Onward now (before .rows) t (k .now) (rowsAhead (k .ahead) a .rows)
+  pub force : k .unread ≡ false → holding (k .now) (rowsAhead (k .ahead) a .rows) t ≡ k .now
+  pub tells : k .unread ≡ false → isRefusal (k .ahead) ≡ false → Tellable (rowsAhead (k .ahead) a) t
 
-module _ (t : ℕ) (a : Answer (List Sample)) where
-  -- where its rows are those that are ahead
-  stays : (now : Sample) (ahead : Ahead) (rows : List Sample) (unread : Bool) → rowsAhead ahead a ≡ accepted rows → (unread ≡ false → holding now rows t ≡ now)
-      → CameIn now rows t a (record { now = now; ahead = ahead; unread = unread })
-  stays now ahead rows unread e f = record { others = rows; comes = e; onward = onward-same now rows t; force = f }
+module _ (t : ℕ) (a : RowsRead) where
+  stays : (now : Sample) (ahead : Ahead) (unread : Bool) → (unread ≡ false → holding now (rowsAhead ahead a .rows) t ≡ now) → (unread ≡ false → isRefusal ahead ≡ false → Tellable (rowsAhead ahead a) t)
+      → CameIn now (rowsAhead ahead a) t a (record { now = now; ahead = ahead; unread = unread })
+  stays now ahead unread f g = record { verdict = refl; onward = onward-same now (rowsAhead ahead a .rows) t; force = f; tells = g }
 
-  last-in : (now x : Sample) → CameIn now (x ∷ []) t a (lastComesIn now x t)
+  -- no line is refused
+  tellable : {P : Type 0} → true ≡ false → P
+  tellable e = never (sym e)
+
+  last-in : (now x : Sample) → CameIn now (allRead (x ∷ [])) t a (lastComesIn now x t)
   last-in now x = go (leb (x .at) t) refl
     where
       go : (b : Bool) → leb (x .at) t ≡ b
-          → CameIn now (x ∷ []) t a (if b then record { now = x; ahead = Ahead.Ended; unread = false } else record { now = now; ahead = Ahead.Last x; unread = false })
-      go true e = record { others = []; comes = refl; onward = onward-in now x [] t (leb-true (x .at) t e); force = λ u. none-to-come x t }
-      go false e = stays now (Ahead.Last x) (x ∷ []) false refl (λ u. before-next now x [] t e)
+          → CameIn now (allRead (x ∷ [])) t a (if b then record { now = x; ahead = Ahead.Ended; unread = false } else record { now = now; ahead = Ahead.Last x; unread = false })
+      go true e = record { verdict = refl; onward = onward-in now x [] t (leb-true (x .at) t e); force = λ u. none-to-come x t; tells = λ u w. tellable }
+      go false e = stays now (Ahead.Last x) false (λ u. before-next now x [] t e) (λ u w. tellable)
 
-  then-in : {now x : Sample} {rows : List Sample} {k : InForce} → x .at ≤ t → CameIn x rows t a k → CameIn now (x ∷ rows) t a k
-  then-in {now} {x} {rows} h c = record { others = c .others; comes = c .comes; onward = onward-then (onward-in now x rows t h) (c .onward); force = c .force }
+  then-in : {now x : Sample} {before : RowsRead} {k : InForce} → x .at ≤ t → CameIn x before t a k → CameIn now (rowFirst (Found.Row x) before) t a k
+  then-in {now} {x} {before} h c = record { verdict = c .verdict; onward = onward-then (onward-in now x (before .rows) t h) (c .onward); force = c .force; tells = c .tells }
 
-  next-in : (now x : Sample) (rows : List Sample) → a ≡ accepted rows → CameIn now (x ∷ rows) t a (comesIn now (Ahead.Next x) t)
-  next-in now x rows is = go (leb (x .at) t) refl
+  next-in : (now x : Sample) → CameIn now (rowFirst (Found.Row x) a) t a (comesIn now (Ahead.Next x) t)
+  next-in now x = go (leb (x .at) t) refl
     where
       go : (b : Bool) → leb (x .at) t ≡ b
-          → CameIn now (x ∷ rows) t a (if b then record { now = x; ahead = Ahead.Unread; unread = true } else record { now = now; ahead = Ahead.Next x; unread = false })
-      go true e = then-in (leb-true (x .at) t e) (stays x Ahead.Unread rows true is (λ u. never (sym u)))
-      go false e = stays now (Ahead.Next x) (x ∷ rows) false (rw is) (λ u. before-next now x rows t e)
+          → CameIn now (rowFirst (Found.Row x) a) t a (if b then record { now = x; ahead = Ahead.Unread; unread = true } else record { now = now; ahead = Ahead.Next x; unread = false })
+      go true e = then-in (leb-true (x .at) t e) (stays x Ahead.Unread true (λ u. never (sym u)) (λ u w. never (sym u)))
+      go false e = stays now (Ahead.Next x) false (λ u. before-next now x (a .rows) t e) (λ u w r. let h = leb-false (x .at) t e in let g = latest-of x (a .rows) in omega (arith, h, g))
 
-  two-in : (now x y : Sample) → CameIn now (x ∷ y ∷ []) t a (comesIn now (Ahead.LastTwo x y) t)
+  two-in : (now x y : Sample) → CameIn now (allRead (x ∷ y ∷ [])) t a (comesIn now (Ahead.LastTwo x y) t)
   two-in now x y = go (leb (x .at) t) refl
     where
       go : (b : Bool) → leb (x .at) t ≡ b
-          → CameIn now (x ∷ y ∷ []) t a (if b then lastComesIn x y t else record { now = now; ahead = Ahead.LastTwo x y; unread = false })
+          → CameIn now (allRead (x ∷ y ∷ [])) t a (if b then lastComesIn x y t else record { now = now; ahead = Ahead.LastTwo x y; unread = false })
       go true e = then-in (leb-true (x .at) t e) (last-in x y)
-      go false e = stays now (Ahead.LastTwo x y) (x ∷ y ∷ []) false refl (λ u. before-next now x (y ∷ []) t e)
+      go false e = stays now (Ahead.LastTwo x y) false (λ u. before-next now x (y ∷ []) t e) (λ u w. tellable)
 
--- the rows after the one that is known
-pub after-next : (x : Sample) (a : Answer (List Sample)) (rows : List Sample) → rowFirst (Found.Row x) a ≡ accepted rows → (others : List Sample) × (a ≡ accepted others) × (x ∷ others ≡ rows)
-after-next x (accepted others) rows e = (others, refl, same-value (x ∷ others) rows e)
-after-next x (refused number place) rows e = not-accepted number place rows e
-
-pub comes-in-right : (t : ℕ) (a : Answer (List Sample)) (now : Sample) (ahead : Ahead) (rows : List Sample) → rowsAhead ahead a ≡ accepted rows → CameIn now rows t a (comesIn now ahead t)
-comes-in-right t a now Ahead.Unread rows e = stays t a now Ahead.Unread rows true e (λ u. never (sym u))
-comes-in-right t a now (Ahead.Next x) rows e =
-    let n = after-next x a rows e in
-    subst (λ (l : List Sample). CameIn now l t a (comesIn now (Ahead.Next x) t)) (n .2) (next-in t a now x (n .0) (n .1))
-comes-in-right t a now (Ahead.LastTwo x y) rows e =
-    subst (λ (l : List Sample). CameIn now l t a (comesIn now (Ahead.LastTwo x y) t)) (same-value (x ∷ y ∷ []) rows e) (two-in t a now x y)
-comes-in-right t a now (Ahead.Last x) rows e =
-    subst (λ (l : List Sample). CameIn now l t a (comesIn now (Ahead.Last x) t)) (same-value (x ∷ []) rows e) (last-in t a now x)
-comes-in-right t a now Ahead.Ended rows e =
-    subst (λ (l : List Sample). CameIn now l t a (comesIn now Ahead.Ended t)) (same-value [] rows e) (stays t a now Ahead.Ended [] false refl (λ u. none-to-come now t))
-comes-in-right t a now (Ahead.Refused r) rows e = not-accepted _ _ rows e
+pub comes-in-right : (t : ℕ) (a : RowsRead) (now : Sample) (ahead : Ahead) → CameIn now (rowsAhead ahead a) t a (comesIn now ahead t)
+comes-in-right t a now Ahead.Unread = stays t a now Ahead.Unread true (λ u. never (sym u)) (λ u w. never (sym u))
+comes-in-right t a now (Ahead.Next x) = next-in t a now x
+comes-in-right t a now (Ahead.LastTwo x y) = two-in t a now x y
+comes-in-right t a now (Ahead.Last x) = last-in t a now x
+comes-in-right t a now Ahead.Ended = stays t a now Ahead.Ended false (λ u. none-to-come now t) (λ u w. tellable t a)
+comes-in-right t a now (Ahead.Refused r) = stays t a now (Ahead.Refused r) false (λ u. none-to-come now t) (λ u w. never (sym w))
 
 abbrev pick : Bool → InForce → InForce → InForce
 pick b x y = if b then x else y
@@ -155,6 +158,28 @@ comes-in-ended now (Ahead.Last x) t = go (leb (x .at) t)
     go false = refl
 comes-in-ended now Ahead.Ended t = refl
 comes-in-ended now (Ahead.Refused r) t = refl
+
+pub comes-in-refusal : (now : Sample) (ahead : Ahead) (t : ℕ) → isRefusal (comesIn now ahead t .ahead) ≡ isRefusal ahead
+comes-in-refusal now Ahead.Unread t = refl
+comes-in-refusal now (Ahead.Next x) t = go (leb (x .at) t)
+  where
+    go : (b : Bool) → isRefusal (pick b (record { now = x; ahead = Ahead.Unread; unread = true }) (record { now = now; ahead = Ahead.Next x; unread = false }) .ahead) ≡ false
+    go true = refl
+    go false = refl
+comes-in-refusal now (Ahead.LastTwo x y) t = go (leb (x .at) t) (leb (y .at) t)
+  where
+    go : (b d : Bool)
+        → isRefusal (pick b (pick d (record { now = y; ahead = Ahead.Ended; unread = false }) (record { now = x; ahead = Ahead.Last y; unread = false })) (record { now = now; ahead = Ahead.LastTwo x y; unread = false }) .ahead) ≡ false
+    go true true = refl
+    go true false = refl
+    go false d = refl
+comes-in-refusal now (Ahead.Last x) t = go (leb (x .at) t)
+  where
+    go : (b : Bool) → isRefusal (pick b (record { now = x; ahead = Ahead.Ended; unread = false }) (record { now = now; ahead = Ahead.Last x; unread = false }) .ahead) ≡ false
+    go true = refl
+    go false = refl
+comes-in-refusal now Ahead.Ended t = refl
+comes-in-refusal now (Ahead.Refused r) t = refl
 
 pub comes-in-unread : (now : Sample) (ahead : Ahead) (t : ℕ) → comesIn now ahead t .unread ≡ true → comesIn now ahead t .ahead ≡ Ahead.Unread
 comes-in-unread now Ahead.Unread t h = refl
@@ -185,46 +210,61 @@ comes-in-unread now (Ahead.Refused r) t h = never h
 
 module _ (b : Begun) (line : List ℕ) (now : Sample) (ahead : Ahead) (t : ℕ) (chunk : List ℕ) (at : ℕ) where
   -- where the loop is
-  pub record Reaching (latest : Begun) (next : ℕ) (k : InForce) : Type 0 where
-    pub rows : (rest : List ℕ) (rows : List Sample) → rowsAhead ahead (yetToCome (readerAt b line) (drop at chunk ++ rest)) ≡ accepted rows
-        → CameIn now rows t (yetToCome (readerAt latest line) (drop next chunk ++ rest)) k
+  pub record Reaching (upto : Begun) (next : ℕ) (k : InForce) : Type 0 where
+    pub rows : (rest : List ℕ) → CameIn now (rowsAhead ahead (yetToCome (readerAt b line) (drop at chunk ++ rest))) t (yetToCome (readerAt upto line) (drop next chunk ++ rest)) k
     pub within : next ≤ length chunk
     pub onward : min at (length chunk) ≤ next
     pub ended : isEnded (k .ahead) ≡ isEnded ahead
+    pub refusal : isRefusal (k .ahead) ≡ isRefusal ahead
     pub unread : k .unread ≡ true → k .ahead ≡ Ahead.Unread
 
   pub reaching-start : (next : ℕ) (k : InForce) → next ≡ min at (length chunk) → k ≡ comesIn now ahead t → Reaching b next k
   reaching-start next k e is = subst (λ (k : InForce). Reaching b next k) (sym is) (record {
-    rows = λ rest rows h. comes-in-right t _ now ahead rows (rw (e, drop-least at chunk) h);
+    rows = λ rest. rw (e, drop-least at chunk) (comes-in-right t (yetToCome (readerAt b line) (drop at chunk ++ rest)) now ahead);
     within = omega arith;
     onward = omega arith;
     ended = comes-in-ended now ahead t;
+    refusal = comes-in-refusal now ahead t;
     unread = comes-in-unread now ahead t;
   })
 
-  module _ (latest : Begun) (next : ℕ) (k : InForce) (g : Reaching latest next k) where
-    module _ (p : NextRow) (right : NextRight (latest .stage) line (latest .len) chunk next p) (u : k .unread ≡ true) where
+  module _ (upto : Begun) (next : ℕ) (k : InForce) (g : Reaching upto next k) where
+    module _ (p : NextRow) (right : NextRight (upto .stage) line (upto .len) chunk next p) (u : k .unread ≡ true) where
       abbrev after : Begun
       after = record { stage = p .stage; len = p .len }
 
-      -- what the reader hands over, where the next row is unread
-      handed : (rest : List ℕ) (rows : List Sample) (h : rowsAhead ahead (yetToCome (readerAt b line) (drop at chunk ++ rest)) ≡ accepted rows)
-          → rowFirst (p .found) (yetToCome (readerAt after line) (drop (p .next) chunk ++ rest)) ≡ accepted (g .rows rest rows h .others)
-      unfolding yetToCome
-      handed rest rows h = sym (right .rows rest) ∙ ap (λ (w : Ahead). rowsAhead w (yetToCome (readerAt latest line) (drop next chunk ++ rest))) (sym (g .unread u)) ∙ g .rows rest rows h .comes
+      -- the rows up to the next one's are in force; where that one is unread, it is the one that the reader hands over
+      module _ (found : Found) (e : p .found ≡ found) (rest : List ℕ) where
+        abbrev left : RowsRead
+        left = yetToCome (readerAt after line) (drop (p .next) chunk ++ rest)
+
+        handed : rowsAhead (k .ahead) (yetToCome (readerAt upto line) (drop next chunk ++ rest)) ≡ rowFirst found left
+        unfolding yetToCome
+        handed =
+            ap (λ (w : Ahead). rowsAhead w (yetToCome (readerAt upto line) (drop next chunk ++ rest))) (g .unread u)
+            ∙ right .rows rest
+            ∙ ap (λ (f : Found). rowFirst f left) e
+
+        same-verdict : rowFirst found left .verdict ≡ rowsAhead ahead (yetToCome (readerAt b line) (drop at chunk ++ rest)) .verdict
+        same-verdict = ap (λ (r : RowsRead). r .verdict) (sym handed) ∙ g .rows rest .verdict
+
+        same-onward : Onward now (rowsAhead ahead (yetToCome (readerAt b line) (drop at chunk ++ rest)) .rows) t (k .now) (rowFirst found left .rows)
+        same-onward = subst (λ (r : RowsRead). Onward now (rowsAhead ahead (yetToCome (readerAt b line) (drop at chunk ++ rest)) .rows) t (k .now) (r .rows)) handed (g .rows rest .onward)
 
       unended : isEnded ahead ≡ false
       unended = sym (g .ended) ∙ ap isEnded (g .unread u)
 
+      unrefused : isRefusal ahead ≡ false
+      unrefused = sym (g .refusal) ∙ ap isRefusal (g .unread u)
+
       pub reaching-more : (x : Sample) (k′ : InForce) → p .found ≡ Found.Row x → k′ ≡ comesIn (k .now) (Ahead.Next x) t → Reaching after (p .next) k′
       reaching-more x k′ e is = subst (λ (k : InForce). Reaching after (p .next) k) (sym is) (record {
-        rows = λ rest rows h. let c = g .rows rest rows h in
-            let f = ap (λ (f : Found). rowFirst f (yetToCome (readerAt after line) (drop (p .next) chunk ++ rest))) (sym e) ∙ handed rest rows h in
-            let d = comes-in-right t _ (k .now) (Ahead.Next x) (c .others) f in
-            record { others = d .others; comes = d .comes; onward = onward-then (c .onward) (d .onward); force = d .force };
+        rows = λ rest. let d = comes-in-right t (left (Found.Row x) e rest) (k .now) (Ahead.Next x) in
+            record { verdict = d .verdict ∙ same-verdict (Found.Row x) e rest; onward = onward-then (same-onward (Found.Row x) e rest) (d .onward); force = d .force; tells = d .tells };
         within = right .within;
         onward = let o : next < p .next = right .onward (ap isRow e) in omega (arith, g .onward);
         ended = comes-in-ended (k .now) (Ahead.Next x) t ∙ sym unended;
+        refusal = comes-in-refusal (k .now) (Ahead.Next x) t ∙ sym unrefused;
         unread = comes-in-unread (k .now) (Ahead.Next x) t;
       })
 
@@ -232,51 +272,92 @@ module _ (b : Begun) (line : List ℕ) (now : Sample) (ahead : Ahead) (t : ℕ) 
       pub not-reached : p .found ≡ Found.Nothing
           → ReachedRight b line now ahead t chunk at (record { begun = after; now = k .now; ahead = Ahead.Unread; next = p .next; told = false })
       not-reached e = record {
-        rows = λ rest rows h. let c = g .rows rest rows h in record {
-          others = c .others;
-          comes = ap (λ (f : Found). rowFirst f (yetToCome (readerAt after line) (drop (p .next) chunk ++ rest))) (sym e) ∙ handed rest rows h;
-          onward = c .onward;
-          force = λ b. never b;
-        };
+        rows = λ rest. record { verdict = same-verdict Found.Nothing e rest; onward = same-onward Found.Nothing e rest; force = λ b. never b; tells = λ b. never b };
         within = right .within;
         onward = let o : min next (length chunk) ≤ p .next = right .ahead in omega (arith, g .onward, g .within);
         further = λ b. right .further (ap isRow e);
         wanted = λ b. unended;
+        unread = λ b. refl;
         ended = sym unended;
+        refusal = sym unrefused;
       }
 
-    pub reached : k .unread ≡ false → ReachedRight b line now ahead t chunk at (record { begun = latest; now = k .now; ahead = k .ahead; next = next; told = true })
+    pub reached : k .unread ≡ false → ReachedRight b line now ahead t chunk at (record { begun = upto; now = k .now; ahead = k .ahead; next = next; told = true })
     reached u = record {
-      rows = λ rest rows h. let c = g .rows rest rows h in record { others = c .others; comes = c .comes; onward = c .onward; force = λ b. c .force u };
+      rows = λ rest. let c = g .rows rest in record { verdict = c .verdict; onward = c .onward; force = λ b. c .force u; tells = λ b. c .tells u };
       within = g .within;
       onward = g .onward;
       further = λ b. never (sym b);
       wanted = λ b. never (sym b);
+      unread = λ b. never (sym b);
       ended = g .ended;
+      refusal = g .refusal;
     }
 
 -- ---- refused, and the end of the file
 
-line-accepted : (stage : Stage) (ls : List Line) (rows : List Sample) → toCome stage ls ≡ accepted rows → isRefused stage ≡ false
-unfolding toCome
-line-accepted Stage.Heading ls rows e = refl
-line-accepted (Stage.FirstRow c) ls rows e = refl
-line-accepted (Stage.LaterRows c last n) ls rows e = refl
-line-accepted (Stage.Refused r) ls rows e = not-accepted _ _ rows e
-
-pub source-accepted : (s : InputSource) (rest : List ℕ) (rows : List Sample) → sourceRows s rest ≡ accepted rows → sourceRefused s ≡ false
+-- a source that is refused has no row left, whatever follows
+pub nothing-left : (s : InputSource) (rest : List ℕ) → sourceRefused s ≡ true → (sourceRows s rest .rows ≡ []) × (isAccepted (sourceRows s rest .verdict) ≡ false)
 unfolding sourceRows sourceRefused yetToCome
-source-accepted s rest rows h = go (s .ahead) (s .reader .stage) h
+nothing-left s rest h = go (s .ahead) (s .reader .stage) h
   where
-    go : (ahead : Ahead) (stage : Stage) → rowsAhead ahead (toCome stage (linesAfter (begunIn (s .reader)) rest)) ≡ accepted rows → refusedAhead ahead (isRefused stage) ≡ false
-    go Ahead.Unread stage e = line-accepted stage _ rows e
-    go (Ahead.Next x) stage e = let n = after-next x _ rows e in line-accepted stage _ (n .0) (n .1)
+    of-stage : (stage : Stage) → isRefused stage ≡ true → (ls : List Line) → (toCome stage ls .rows ≡ []) × (isAccepted (toCome stage ls .verdict) ≡ false)
+    of-stage Stage.Heading e ls = never e
+    of-stage (Stage.FirstRow c) e ls = never e
+    of-stage (Stage.LaterRows c last n) e ls = never e
+    of-stage (Stage.Refused r) e ls = let is = refused-read r ls in (ap (λ (a : RowsRead). a .rows) is, ap (λ (a : RowsRead). isAccepted (a .verdict)) is)
+
+    go : (ahead : Ahead) (stage : Stage) → refusedAhead ahead (isRefused stage) ≡ true
+        → (rowsAhead ahead (toCome stage (linesAfter (begunIn (s .reader)) rest)) .rows ≡ []) × (isAccepted (rowsAhead ahead (toCome stage (linesAfter (begunIn (s .reader)) rest)) .verdict) ≡ false)
+    go Ahead.Unread stage e = of-stage stage e (linesAfter (begunIn (s .reader)) rest)
+    go (Ahead.Next x) stage e = never e
+    go (Ahead.LastTwo x y) stage e = never e
+    go (Ahead.Last x) stage e = never e
+    go Ahead.Ended stage e = never e
+    go (Ahead.Refused r) stage e = (refl, refl)
+
+-- nor does what follows change anything
+pub for-good : (s : InputSource) (rest rest′ : List ℕ) → sourceRefused s ≡ true → sourceRows s rest ≡ sourceRows s rest′
+unfolding sourceRows sourceRefused yetToCome
+for-good s rest rest′ h = go (s .ahead) (s .reader .stage) h
+  where
+    of-stage : (stage : Stage) → isRefused stage ≡ true → (ls ls′ : List Line) → toCome stage ls ≡ toCome stage ls′
+    of-stage Stage.Heading e ls ls′ = never e
+    of-stage (Stage.FirstRow c) e ls ls′ = never e
+    of-stage (Stage.LaterRows c last n) e ls ls′ = never e
+    of-stage (Stage.Refused r) e ls ls′ = refused-read r ls ∙ sym (refused-read r ls′)
+
+    go : (ahead : Ahead) (stage : Stage) → refusedAhead ahead (isRefused stage) ≡ true
+        → rowsAhead ahead (toCome stage (linesAfter (begunIn (s .reader)) rest)) ≡ rowsAhead ahead (toCome stage (linesAfter (begunIn (s .reader)) rest′))
+    go Ahead.Unread stage e = of-stage stage e (linesAfter (begunIn (s .reader)) rest) (linesAfter (begunIn (s .reader)) rest′)
+    go (Ahead.Next x) stage e = never e
     go (Ahead.LastTwo x y) stage e = refl
     go (Ahead.Last x) stage e = refl
     go Ahead.Ended stage e = refl
-    go (Ahead.Refused r) stage e = not-accepted _ _ rows e
+    go (Ahead.Refused r) stage e = refl
 
-at-end : (ahead : Ahead) (e : Ending) (a : Answer (List Sample)) → rowsAhead (aheadAtEnd ahead e) a ≡ rowsAhead ahead (endingOf e)
+-- so that one whose file is accepted is not refused
+pub source-accepted : (s : InputSource) (rest : List ℕ) → isAccepted (sourceRows s rest .verdict) ≡ true → sourceRefused s ≡ false
+source-accepted s rest h = go (sourceRefused s) refl
+  where
+    go : (b : Bool) → sourceRefused s ≡ b → b ≡ false
+    go true e = never (sym (nothing-left s rest e .1) ∙ h)
+    go false e = refl
+
+-- and that no refusal is ahead of one that is not
+pub no-refusal : (s : InputSource) → sourceRefused s ≡ false → isRefusal (s .ahead) ≡ false
+unfolding sourceRefused
+no-refusal s h = go (s .ahead) h
+  where
+    go : (ahead : Ahead) → refusedAhead ahead (isRefused (s .reader .stage)) ≡ false → isRefusal ahead ≡ false
+    go Ahead.Unread e = refl
+    go (Ahead.Next x) e = refl
+    go (Ahead.LastTwo x y) e = refl
+    go (Ahead.Last x) e = refl
+    go Ahead.Ended e = refl
+    go (Ahead.Refused r) e = e
+
+at-end : (ahead : Ahead) (e : Ending) (a : RowsRead) → rowsAhead (aheadAtEnd ahead e) a ≡ atEndOf (rowsAhead ahead (endingOf e))
 at-end Ahead.Unread (Ending.LastRow y) a = refl
 at-end Ahead.Unread Ending.NoRow a = refl
 at-end Ahead.Unread (Ending.Refused r) a = refl
@@ -287,6 +368,18 @@ at-end (Ahead.LastTwo x y) e a = refl
 at-end (Ahead.Last x) e a = refl
 at-end Ahead.Ended e a = refl
 at-end (Ahead.Refused r) e a = refl
+
+refused-at-end : (ahead : Ahead) (e : Ending) (line : Bool) → refusedAhead (aheadAtEnd ahead e) line ≡ not (isAccepted (rowsAhead ahead (endingOf e) .verdict))
+refused-at-end Ahead.Unread (Ending.LastRow y) line = refl
+refused-at-end Ahead.Unread Ending.NoRow line = refl
+refused-at-end Ahead.Unread (Ending.Refused r) line = refl
+refused-at-end (Ahead.Next x) (Ending.LastRow y) line = refl
+refused-at-end (Ahead.Next x) Ending.NoRow line = refl
+refused-at-end (Ahead.Next x) (Ending.Refused r) line = refl
+refused-at-end (Ahead.LastTwo x y) e line = refl
+refused-at-end (Ahead.Last x) e line = refl
+refused-at-end Ahead.Ended e line = refl
+refused-at-end (Ahead.Refused r) e line = refl
 
 ends : (ahead : Ahead) (e : Ending) → isEnded (aheadAtEnd ahead e) ≡ true
 ends Ahead.Unread (Ending.LastRow y) = refl
@@ -302,13 +395,10 @@ ends (Ahead.Refused r) e = refl
 
 pub ended-right : (s : InputSource) (e : Ending) (ahead : Ahead) → endingOf e ≡ yetToCome (s .reader) [] → ahead ≡ aheadAtEnd (s .ahead) e
     → EndedRight s (record { reader = s .reader; now = s .now; ahead = ahead })
-unfolding sourceRows
-ended-right s e ahead h is =
-    let same : (rest : List ℕ) → rowsAhead ahead (yetToCome (s .reader) rest) ≡ rowsAhead (s .ahead) (yetToCome (s .reader) []) =
-    λ rest. ap (λ (w : Ahead). rowsAhead w (yetToCome (s .reader) rest)) is ∙ at-end (s .ahead) e (yetToCome (s .reader) rest) ∙ ap (rowsAhead (s .ahead)) h in
-    record {
-      rows = same;
-      held = refl;
-      ended = ap isEnded is ∙ ends (s .ahead) e;
-      right = λ rows a. source-accepted (record { reader = s .reader; now = s .now; ahead = ahead }) [] rows (same [] ∙ a);
-    }
+unfolding sourceRows sourceRefused
+ended-right s e ahead h is = record {
+  rows = λ rest. ap (λ (w : Ahead). rowsAhead w (yetToCome (s .reader) rest)) is ∙ at-end (s .ahead) e (yetToCome (s .reader) rest) ∙ ap (λ (r : RowsRead). atEndOf (rowsAhead (s .ahead) r)) h;
+  held = refl;
+  ended = ap isEnded is ∙ ends (s .ahead) e;
+  right = ap (λ (w : Ahead). refusedAhead w (isRefused (s .reader .stage))) is ∙ refused-at-end (s .ahead) e (isRefused (s .reader .stage)) ∙ ap (λ (r : RowsRead). not (isAccepted (rowsAhead (s .ahead) r .verdict))) h;
+}

@@ -1,4 +1,5 @@
 -- Laws of lines, stages and places, of the rows in force, and the theorems over every list of chunks.
+pub mod UpToRefused
 pub mod LineLaws
 pub mod UsualNext
 pub mod PlaceLaws

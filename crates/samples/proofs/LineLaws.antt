@@ -14,20 +14,22 @@ use Rattle.bytes.specs.Bytes.{indexAfter, indexOf, slice}
 use Rattle.rules.specs.declared.samples.Sample.{Sample}
 use Rattle.rules.specs.declared.answers.Refusal.{Refusal}
 use Rattle.rules.specs.declared.answers.Verdict.{Verdict}
-use Rattle.rules.specs.Answers.{Answer, accepted, refused, refusalOf, _>>=_}
+use Rattle.rules.specs.Answers.{Answer, accepted, refused, refusalOf, verdictOf, _>>=_}
 use Rattle.rules.specs.SampleFile.{sampleSheet, sheetLines, sampleOf, sampleFile}
 use Rattle.rules.specs.Numbers.{if_then_else_}
 use Rattle.rules.specs.Bytes.{LF, CR, inFront, parts}
 use Rattle.rules.specs.Lines.{Line, withoutCR, ended, atEnd, linesOf, lines}
 use Rattle.samples.specs.declared.stage.Stage.{Stage}
 use Rattle.samples.specs.declared.stage.Found.{Found}
-use Rattle.samples.specs.ToCome.{mostPlace, placed, samplesOf, toCome, rowFirst, endOf}
+use Rattle.samples.specs.ToCome.{mostPlace, placed, samplesOf, answerFrom, RowsRead, upToRefused, toCome, fileRows, rowFirst, answerOf, allRead, endOf}
 use Rattle.samples.specs.declared.reader.SampleReader.{SampleReader}
-use Rattle.samples.specs.Streamed.{begunWith, linesAfter, yetToCome}
+use Rattle.samples.specs.Streamed.{begunWith, linesAfter, yetToCome, isRow}
 use Rattle.sheet.specs.declared.headings.Columns.{Columns}
 use Rattle.sheet.specs.Rows.{rowIn}
 use Rattle.sheet.specs.Usual.{UsualRight}
+use Rattle.rules.proofs.Checks.{not-accepted}
 use Rattle.sheet.proofs.PartsAt.{index-le, part-first}
+use Rattle.samples.proofs.UpToRefused.{answer-read}
 
 -- ---- "one CR just before it is dropped"
 
@@ -277,26 +279,30 @@ usual-told chunk at columns last lines line x next after found u leads is rest =
 
 -- ---- the whole file, from its start to its end
 
+pub from-start : (rest : List ℕ) → toCome Stage.Heading (linesAfter [] rest) ≡ fileRows rest
+unfolding toCome fileRows answerFrom
+from-start rest = ap (upToRefused (answerFrom Stage.Heading)) (lines-begun rest)
+
 rows-are : (a : Answer (List (List ℕ))) → samplesOf a ≡ (a >>= λ (rows : List (List ℕ)). accepted (map sampleOf rows))
 rows-are (accepted rows) = refl
 rows-are (refused number place) = refl
 
-pub from-start : (rest : List ℕ) → toCome Stage.Heading (linesAfter [] rest) ≡ placed (sampleFile rest)
-unfolding toCome sampleFile
-from-start rest = rw (lines-begun rest) (ap placed (rows-are (sheetLines sampleSheet (lines rest))))
+-- where no line is refused the rows are the paper's, and else the refusal is
+pub file-answer : (s : List ℕ) → answerOf (fileRows s) ≡ placed (sampleFile s)
+unfolding fileRows sampleFile
+file-answer s = answer-read (λ (ls : List Line). placed (samplesOf (sheetLines sampleSheet ls))) (lines s) ∙ ap placed (rows-are (sheetLines sampleSheet (lines s)))
 
 -- the end of the file, after a line that gave `found`
-pub ending-refused : (found : Found) (v : Verdict) (a : Answer (List Sample)) (r : Refusal) → v ≡ Verdict.Refused r → endOf v ≡ a → refusalOf r ≡ rowFirst found a
-ending-refused (Found.Row x) v a r p e = rw (← e, p)
-ending-refused Found.Nothing v a r p e = rw (← e, p)
+pub ending-refused : (found : Found) (v : Verdict) (a : RowsRead) (r : Refusal) → v ≡ Verdict.Refused r → endOf v ≡ a → (isRow found ≡ true → a .verdict ≡ accepted tt)
+    → record { rows = []; verdict = refusalOf r } ≡ rowFirst found a
+ending-refused (Found.Row x) v a r p e unrefused = not-accepted _ _ tt (ap (λ (w : Verdict). verdictOf w) (sym p) ∙ ap (λ (r : RowsRead). r .verdict) e ∙ unrefused refl)
+ending-refused Found.Nothing v a r p e unrefused = ap endOf (sym p) ∙ e
 
-pub ending-row : (found : Found) (v : Verdict) (a : Answer (List Sample)) (x : Sample) → found ≡ Found.Row x → v ≡ Verdict.Accepted → endOf v ≡ a
-    → accepted (x ∷ []) ≡ rowFirst found a
-ending-row found v a x f p e = rw (f, ← e, p)
+pub ending-row : (found : Found) (v : Verdict) (a : RowsRead) (x : Sample) → found ≡ Found.Row x → v ≡ Verdict.Accepted → endOf v ≡ a → allRead (x ∷ []) ≡ rowFirst found a
+ending-row found v a x f p e = ap (rowFirst (Found.Row x)) (ap endOf (sym p) ∙ e) ∙ ap (λ (g : Found). rowFirst g a) (sym f)
 
-pub ending-nothing : (found : Found) (v : Verdict) (a : Answer (List Sample)) → found ≡ Found.Nothing → v ≡ Verdict.Accepted → endOf v ≡ a
-    → accepted [] ≡ rowFirst found a
-ending-nothing found v a f p e = rw (f, ← e, p)
+pub ending-nothing : (found : Found) (v : Verdict) (a : RowsRead) → found ≡ Found.Nothing → v ≡ Verdict.Accepted → endOf v ≡ a → allRead [] ≡ rowFirst found a
+ending-nothing found v a f p e = ap endOf (sym p) ∙ e ∙ ap (λ (g : Found). rowFirst g a) (sym f)
 
 -- a last line without LF is a line
 pub last-line : (s : List ℕ) → 0 < length s → linesAfter s [] ≡ record { size = length s; text = s } ∷ []

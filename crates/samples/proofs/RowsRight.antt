@@ -2,13 +2,15 @@
 -- sheddable load is not above the load. Assumes nothing.
 use Prim.Native.Nat.{ℕ, zero, suc, _+_}
 use mathlib.Core.Path.{_≡_, refl, sym, ap, subst, _∙_}
+use mathlib.Core.Bool.{Bool, true, false}
 use mathlib.Core.List.{List, [], _∷_, _++_, map, append-nil}
 use native.Mathlib.Omega.{arith}
 use lib.ListN.{drop}
 use Rattle.rules.specs.declared.samples.Sample.{Sample}
 use Rattle.rules.specs.declared.run.Inputs.{Inputs}
 use Rattle.rules.specs.Lines.{Line}
-use Rattle.rules.specs.Answers.{Answer, accepted, refused}
+use Rattle.rules.specs.Numbers.{if_then_else_}
+use Rattle.rules.specs.Answers.{Answer, accepted, refused, isAccepted}
 use Rattle.rules.specs.SampleFile.{sampleSheet, laterRows, rowsAfter, sheetLines, sampleOf, holding, beforeAll}
 use Rattle.rules.specs.Run.{inputsOf}
 use Rattle.rules.proofs.Checks.{not-accepted, same-value}
@@ -18,10 +20,11 @@ use Rattle.samples.specs.declared.stage.Stage.{Stage}
 use Rattle.samples.specs.declared.inputs.Ahead.{Ahead}
 use Rattle.samples.specs.declared.inputs.InputSource.{InputSource}
 use Rattle.samples.specs.declared.inputs.Filled.{Filled}
-use Rattle.samples.specs.ToCome.{placed, samplesOf, toCome}
+use Rattle.samples.specs.ToCome.{placed, samplesOf, answerFrom, RowsRead, toCome}
 use Rattle.samples.specs.Streamed.{yetToCome, linesAfter, begunIn}
-use Rattle.samples.specs.Held.{rowsAhead, sourceRows, heldFrom, inputsIn, FilledRight, EndedRight}
-use Rattle.samples.proofs.HeldLaws.{after-next, held-none}
+use Rattle.samples.specs.Held.{rowsAhead, sourceRows, heldFrom, inputsIn, FilledRight, atEndOf, EndedRight}
+use Rattle.samples.proofs.UpToRefused.{read-holds}
+use Rattle.samples.proofs.HeldLaws.{held-none}
 
 -- what a second is handed, in the words of its row
 pub data InputsRight : List Inputs → Type 0 where
@@ -47,40 +50,43 @@ as-samples : (a : Answer (List (List ℕ))) (rows : List Sample) → ((values : 
 as-samples (accepted values) rows right e = subst RowsRight (same-value (map sampleOf values) rows e) (right values refl)
 as-samples (refused number place) rows right e = not-accepted _ _ rows e
 
-to-come-right : (stage : Stage) (ls : List Line) (rows : List Sample) → toCome stage ls ≡ accepted rows → RowsRight rows
+answer-right : (stage : Stage) (ls : List Line) (rows : List Sample) → answerFrom stage ls ≡ accepted rows → RowsRight rows
+unfolding answerFrom
+answer-right Stage.Heading ls rows e = as-samples (sheetLines sampleSheet ls) rows (sheet-right ls) e
+answer-right (Stage.FirstRow columns) ls rows e = as-samples (rowsAfter sampleSheet (columnsOf columns) ls) rows (after-right (columnsOf columns) ls) e
+answer-right (Stage.LaterRows columns last n) ls rows e = as-samples (laterRows sampleSheet (columnsOf columns) (suc n) last ls) rows (later-right (columnsOf columns) (suc n) last ls) e
+answer-right (Stage.Refused r) ls rows e = not-accepted _ _ rows e
+
+-- of the lines up to the first refused one too
+to-come-right : (stage : Stage) (ls : List Line) → RowsRight (toCome stage ls .rows)
 unfolding toCome
-to-come-right Stage.Heading ls rows e = as-samples (sheetLines sampleSheet ls) rows (sheet-right ls) e
-to-come-right (Stage.FirstRow columns) ls rows e = as-samples (rowsAfter sampleSheet (columnsOf columns) ls) rows (after-right (columnsOf columns) ls) e
-to-come-right (Stage.LaterRows columns last n) ls rows e = as-samples (laterRows sampleSheet (columnsOf columns) (suc n) last ls) rows (later-right (columnsOf columns) (suc n) last ls) e
-to-come-right (Stage.Refused r) ls rows e = not-accepted _ _ rows e
+to-come-right stage ls = read-holds RowsRight RowsRight.none (answerFrom stage) (answer-right stage) ls
 
 -- every row that is still to come into force is right
-pub source-rows-right : (s : InputSource) (rest : List ℕ) (rows : List Sample) → AheadRight (s .ahead) → sourceRows s rest ≡ accepted rows → RowsRight rows
+pub source-rows-right : (s : InputSource) (rest : List ℕ) → AheadRight (s .ahead) → RowsRight (sourceRows s rest .rows)
 unfolding sourceRows yetToCome
-source-rows-right s rest rows h e = go (s .ahead) h e
+source-rows-right s rest h = go (s .ahead) h
   where
-    go : (ahead : Ahead) → AheadRight ahead → rowsAhead ahead (toCome (s .reader .stage) (linesAfter (begunIn (s .reader)) rest)) ≡ accepted rows → RowsRight rows
-    go Ahead.Unread h e = to-come-right (s .reader .stage) (linesAfter (begunIn (s .reader)) rest) rows e
-    go (Ahead.Next x) h e =
-        let n = after-next x (toCome (s .reader .stage) (linesAfter (begunIn (s .reader)) rest)) rows e in
-        subst RowsRight (n .2) (RowsRight.more h (to-come-right (s .reader .stage) (linesAfter (begunIn (s .reader)) rest) (n .0) (n .1)))
-    go (Ahead.LastTwo x y) h e = subst RowsRight (same-value (x ∷ y ∷ []) rows e) (RowsRight.more (h .0) (RowsRight.more (h .1) RowsRight.none))
-    go (Ahead.Last x) h e = subst RowsRight (same-value (x ∷ []) rows e) (RowsRight.more h RowsRight.none)
-    go Ahead.Ended h e = subst RowsRight (same-value [] rows e) RowsRight.none
-    go (Ahead.Refused r) h e = not-accepted _ _ rows e
+    go : (ahead : Ahead) → AheadRight ahead → RowsRight (rowsAhead ahead (toCome (s .reader .stage) (linesAfter (begunIn (s .reader)) rest)) .rows)
+    go Ahead.Unread h = to-come-right (s .reader .stage) (linesAfter (begunIn (s .reader)) rest)
+    go (Ahead.Next x) h = RowsRight.more h (to-come-right (s .reader .stage) (linesAfter (begunIn (s .reader)) rest))
+    go (Ahead.LastTwo x y) h = RowsRight.more (h .0) (RowsRight.more (h .1) RowsRight.none)
+    go (Ahead.Last x) h = RowsRight.more h RowsRight.none
+    go Ahead.Ended h = RowsRight.none
+    go (Ahead.Refused r) h = RowsRight.none
 
 -- so that the rows that are known to be ahead are
-ahead-right : (s : InputSource) (rest : List ℕ) (rows : List Sample) → RowsRight rows → sourceRows s rest ≡ accepted rows → AheadRight (s .ahead)
+ahead-right : (s : InputSource) (rest : List ℕ) → RowsRight (sourceRows s rest .rows) → AheadRight (s .ahead)
 unfolding sourceRows
-ahead-right s rest rows h e = go (s .ahead) e
+ahead-right s rest h = go (s .ahead) h
   where
-    go : (ahead : Ahead) → rowsAhead ahead (yetToCome (s .reader) rest) ≡ accepted rows → AheadRight ahead
-    go Ahead.Unread e = tt
-    go (Ahead.Next x) e = let n = after-next x (yetToCome (s .reader) rest) rows e in head-right (subst RowsRight (sym (n .2)) h)
-    go (Ahead.LastTwo x y) e = let k = subst RowsRight (sym (same-value (x ∷ y ∷ []) rows e)) h in (head-right k, head-right (tail-right k))
-    go (Ahead.Last x) e = head-right (subst RowsRight (sym (same-value (x ∷ []) rows e)) h)
-    go Ahead.Ended e = tt
-    go (Ahead.Refused r) e = tt
+    go : (ahead : Ahead) → RowsRight (rowsAhead ahead (yetToCome (s .reader) rest) .rows) → AheadRight ahead
+    go Ahead.Unread h = tt
+    go (Ahead.Next x) h = head-right h
+    go (Ahead.LastTwo x y) h = (head-right h, head-right (tail-right h))
+    go (Ahead.Last x) h = head-right h
+    go Ahead.Ended h = tt
+    go (Ahead.Refused r) h = tt
 
 -- ---- what each second is handed
 
@@ -103,28 +109,34 @@ drop-right (suc n) [] h = h
 drop-right (suc n) (x ∷ rows) h = drop-right n rows (tail-right h)
 
 module _ (s : InputSource) (second : ℕ) (chunk : List ℕ) (at : ℕ) (loads₀ solars₀ sheddables₀ : List ℕ) (r : Filled) (loads solars sheddables : List ℕ)
-    (f : FilledRight s second chunk at loads₀ solars₀ sheddables₀ r loads solars sheddables) (right : SourceRight s)
-    (rest : List ℕ) (rows : List Sample) (e : sourceRows s (drop at chunk ++ rest) ≡ accepted rows) where
-  all-right : RowsRight (s .now ∷ rows)
-  all-right = RowsRight.more (right .force) (source-rows-right s (drop at chunk ++ rest) rows (right .ahead) e)
+    (f : FilledRight s second chunk at loads₀ solars₀ sheddables₀ r loads solars sheddables) (right : SourceRight s) where
+  all-right : RowsRight (s .now ∷ sourceRows s (drop at chunk ++ []) .rows)
+  all-right = RowsRight.more (right .force) (source-rows-right s (drop at chunk ++ []) (right .ahead))
 
-  left-right : RowsRight (r .source .now ∷ f .inputs rest rows e .others)
-  left-right = subst RowsRight (f .inputs rest rows e .last) (drop-right (f .inputs rest rows e .passed) (s .now ∷ rows) all-right)
+  left-right : RowsRight (r .source .now ∷ sourceRows (r .source) (drop (r .next) chunk ++ []) .rows)
+  left-right = subst RowsRight (f .inputs [] .last) (drop-right (f .inputs [] .passed) (s .now ∷ sourceRows s (drop at chunk ++ []) .rows) all-right)
 
   pub fill-keeps-right : SourceRight (r .source)
-  fill-keeps-right = record { force = head-right left-right; ahead = ahead-right (r .source) (drop (r .next) chunk ++ rest) (f .inputs rest rows e .others) (tail-right left-right) (f .inputs rest rows e .comes) }
+  fill-keeps-right = record { force = head-right left-right; ahead = ahead-right (r .source) (drop (r .next) chunk ++ []) (tail-right left-right) }
 
   -- the seconds that were told
   pub filled-inputs-right : InputsRight (inputsIn (r .seconds) loads solars sheddables)
   filled-inputs-right =
-      let others = f .inputs rest rows e .others in
-      let told = f .inputs rest rows e .told 0
+      let others = sourceRows (r .source) (drop (r .next) chunk ++ []) .rows in
+      let told = f .inputs [] .told 0
       ∙ ap (λ (l : List Inputs). inputsIn (r .seconds) loads solars sheddables ++ l) (held-none (r .source .now) others (second + r .seconds))
       ∙ append-nil (inputsIn (r .seconds) loads solars sheddables) in
-      subst InputsRight told (held-right (s .now) rows second (r .seconds + 0) (right .force) (tail-right all-right))
+      subst InputsRight told (held-right (s .now) (sourceRows s (drop at chunk ++ []) .rows) second (r .seconds + 0) (right .force) (tail-right all-right))
 
-pub end-keeps-right : (s r : InputSource) (rows : List Sample) → EndedRight s r → SourceRight s → sourceRows s [] ≡ accepted rows → SourceRight r
-end-keeps-right s r rows f right e = record {
+pub end-keeps-right : (s r : InputSource) → EndedRight s r → SourceRight s → SourceRight r
+end-keeps-right s r f right = record {
   force = subst RowRight (sym (f .held)) (right .force);
-  ahead = ahead-right r [] rows (source-rows-right s [] rows (right .ahead) e) (f .rows [] ∙ e);
+  ahead = ahead-right r [] (subst (λ (a : RowsRead). RowsRight (a .rows)) (sym (f .rows [])) (at-end (sourceRows s []) (source-rows-right s [] (right .ahead))));
 }
+  where
+    at-end : (a : RowsRead) → RowsRight (a .rows) → RowsRight (atEndOf a .rows)
+    at-end a h = go (isAccepted (a .verdict))
+      where
+        go : (b : Bool) → RowsRight ((if b then a else record { rows = []; verdict = a .verdict }) .rows)
+        go true = h
+        go false = RowsRight.none

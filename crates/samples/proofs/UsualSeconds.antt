@@ -9,8 +9,6 @@ use lib.Seq.{drop-drop}
 use borrow.Author.Tests.{lt-leb}
 use Rattle.rules.specs.declared.samples.Sample.{Sample}
 use Rattle.rules.specs.declared.run.Inputs.{Inputs}
-use Rattle.rules.specs.Answers.{Answer, accepted}
-use Rattle.rules.specs.SampleFile.{holding}
 use Rattle.rules.proofs.Tests.{never}
 use Rattle.sheet.specs.declared.headings.Columns.{Columns}
 use Rattle.samples.specs.declared.stage.Stage.{Stage}
@@ -18,10 +16,11 @@ use Rattle.samples.specs.declared.inputs.Ahead.{Ahead}
 use Rattle.samples.specs.declared.inputs.Begun.{Begun}
 use Rattle.samples.specs.declared.inputs.InputSource.{InputSource}
 use Rattle.samples.specs.declared.usual_seconds.Told.{Told}
-use Rattle.samples.specs.ToCome.{mostPlace, toCome}
-use Rattle.samples.specs.Streamed.{yetToCome, linesAfter, UsualLater}
+use Rattle.samples.specs.declared.stage.Found.{Found}
+use Rattle.samples.specs.ToCome.{mostPlace, RowsRead, rowFirst}
+use Rattle.samples.specs.Streamed.{yetToCome, UsualLater}
 use Rattle.samples.specs.Held.{readerAt, sourceRows, heldFrom, inputsIn, ReachedRight, HeldOn, placesOf, toldAt, filledAt, Filling, GoesOn}
-use Rattle.samples.proofs.HeldLaws.{in-force, before-next, onward-same, after-next}
+use Rattle.samples.proofs.HeldLaws.{latest-of, in-force, before-next, onward-same}
 use Rattle.samples.proofs.FillLaws.{filling-more}
 use Rattle.samples.proofs.UsualNext.{usual-on}
 
@@ -31,53 +30,61 @@ use Rattle.samples.proofs.UsualNext.{usual-on}
 reached-before : (b : Begun) (line : List ℕ) (now x : Sample) (t : ℕ) (chunk : List ℕ) (next : ℕ) → t < x .at → next ≤ length chunk
     → ReachedRight b line now (Ahead.Next x) t chunk next (record { begun = b; now = now; ahead = Ahead.Next x; next = next; told = true })
 reached-before b line now x t chunk next h w = record {
-  rows = λ rest rows e. record { others = rows; comes = e; onward = onward-same now rows t; force = λ u. force (yetToCome (readerAt b line) (drop next chunk ++ rest)) rows (after-next x (yetToCome (readerAt b line) (drop next chunk ++ rest)) rows e) };
+  rows = λ rest. let others = yetToCome (readerAt b line) (drop next chunk ++ rest) .rows in record {
+    verdict = refl;
+    onward = onward-same now (x ∷ others) t;
+    force = λ u. before-next now x others t (lt-leb (x .at) t h);
+    tells = λ u d r. let g = latest-of x others in omega (arith, h, g);
+  };
   within = w;
   onward = omega arith;
   further = λ u. never (sym u);
   wanted = λ u. never (sym u);
+  unread = λ u. never (sym u);
   ended = refl;
+  refusal = refl;
 }
-  where
-    force : (a : Answer (List Sample)) (rows : List Sample) → (others : List Sample) × (a ≡ accepted others) × (x ∷ others ≡ rows) → holding now rows t ≡ now
-    force a rows n = subst (λ (l : List Sample). holding now l t ≡ now) (n .2) (before-next now x (n .0) t (lt-leb (x .at) t h))
 
 -- ---- the next row comes into force, and the one after it is read
 
 module _ (columns : Columns) (lines : ℕ) (now x : Sample) (next i : ℕ) (chunk : List ℕ) (y : Sample) (after : ℕ) (u : UsualLater columns (x .at) chunk next y after) (line : List ℕ) where
+  abbrev told : Told
+  told = toldAt columns lines now x next i
+
+  abbrev then : Told
+  then = toldAt columns (min (suc lines) mostPlace) x y after i
+
   -- the rows after the one that comes into force
-  rows-then : (rest : List ℕ) (others : List Sample) → sourceRows (filledAt (toldAt columns lines now x next i) line .source) (drop next chunk ++ rest) ≡ accepted others
-      → (left : List Sample) × (sourceRows (filledAt (toldAt columns (min (suc lines) mostPlace) x y after i) line .source) (drop after chunk ++ rest) ≡ accepted left) × (x ∷ left ≡ others)
+  rows-then : (rest : List ℕ) → sourceRows (filledAt told line .source) (drop next chunk ++ rest) ≡ rowFirst (Found.Row x) (sourceRows (filledAt then line .source) (drop after chunk ++ rest))
   unfolding sourceRows yetToCome
-  rows-then rest others e =
-      let n = after-next x (toCome (Stage.LaterRows columns (x .at) lines) (linesAfter [] (drop next chunk ++ rest))) others e in
-      (n .0, sym (usual-on columns (x .at) lines chunk next y after u rest) ∙ n .1, n .2)
+  rows-then rest = ap (rowFirst (Found.Row x)) (usual-on columns (x .at) lines chunk next y after u rest)
 
   row-then : (s : InputSource) (second at : ℕ) (loads₀ solars₀ sheddables₀ loads solars sheddables : List ℕ) → x .at ≤ second + i
-      → Filling s second chunk at loads₀ solars₀ sheddables₀ (filledAt (toldAt columns lines now x next i) line) loads solars sheddables
-      → Filling s second chunk at loads₀ solars₀ sheddables₀ (filledAt (toldAt columns (min (suc lines) mostPlace) x y after i) line) loads solars sheddables
+      → Filling s second chunk at loads₀ solars₀ sheddables₀ (filledAt told line) loads solars sheddables
+      → Filling s second chunk at loads₀ solars₀ sheddables₀ (filledAt then line) loads solars sheddables
   row-then s second at loads₀ solars₀ sheddables₀ loads solars sheddables h f = record {
-    inputs = λ rest rows a. held rest rows (f .inputs rest rows a);
+    inputs = λ rest. held rest (subst (λ (r : RowsRead). HeldOn (s .now) (sourceRows s (drop at chunk ++ rest)) second (filledAt told line) r loads solars sheddables) (rows-then rest) (f .inputs rest));
     within = u .right .within;
     onward = omega (arith, f .onward, u .right .onward);
     most = f .most;
+    before = f .before;
     ended = f .ended;
+    refusal = f .refusal;
     keptLoads = f .keptLoads;
     keptSolars = f .keptSolars;
     keptSheddables = f .keptSheddables;
   }
     where
-      held : (rest : List ℕ) (rows : List Sample) → HeldOn (s .now) rows second (filledAt (toldAt columns lines now x next i) line) (drop next chunk ++ rest) loads solars sheddables
-          → HeldOn (s .now) rows second (filledAt (toldAt columns (min (suc lines) mostPlace) x y after i) line) (drop after chunk ++ rest) loads solars sheddables
-      held rest rows c =
-          let n = rows-then rest (c .others) (c .comes) in
+      held : (rest : List ℕ) → HeldOn (s .now) (sourceRows s (drop at chunk ++ rest)) second (filledAt told line) (rowFirst (Found.Row x) (sourceRows (filledAt then line .source) (drop after chunk ++ rest))) loads solars sheddables
+          → HeldOn (s .now) (sourceRows s (drop at chunk ++ rest)) second (filledAt then line) (sourceRows (filledAt then line .source) (drop after chunk ++ rest)) loads solars sheddables
+      held rest c =
+          let left = sourceRows (filledAt then line .source) (drop after chunk ++ rest) .rows in
           record {
-            others = n .0;
-            comes = n .1;
+            verdict = c .verdict;
             passed = c .passed + 1;
-            last = sym (drop-drop 1 (c .passed) (s .now ∷ rows)) ∙ ap (drop 1) (c .last) ∙ sym (n .2);
-            told = λ k. c .told k
-                ∙ ap (λ (l : List Inputs). inputsIn i loads solars sheddables ++ l) (ap (λ (l : List Sample). heldFrom now l (second + i) k) (sym (n .2)) ∙ in-force now x (n .0) (second + i) k h);
+            last = sym (drop-drop 1 (c .passed) (s .now ∷ sourceRows s (drop at chunk ++ rest) .rows)) ∙ ap (drop 1) (c .last);
+            told = λ k. c .told k ∙ ap (λ (l : List Inputs). inputsIn i loads solars sheddables ++ l) (in-force now x left (second + i) k h);
+            came = λ m k l. c .came m k (let g = latest-of x left in omega (arith, g, h));
           }
 
 -- ---- one turn after the other

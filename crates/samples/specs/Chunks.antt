@@ -5,11 +5,11 @@ use mathlib.Core.Path.{_≡_}
 use mathlib.Core.List.{List, [], _∷_, _++_}
 use lib.ListN.{drop}
 use Rattle.rules.specs.declared.samples.Sample.{Sample}
-use Rattle.rules.specs.Answers.{Answer, accepted, refused}
 use Rattle.samples.specs.declared.stage.Found.{Found}
 use Rattle.samples.specs.declared.reader.SampleReader.{SampleReader}
 use Rattle.samples.specs.declared.reader.Pulled.{Pulled}
 use Rattle.samples.specs.declared.check.SampleCheck.{SampleCheck}
+use Rattle.samples.specs.ToCome.{RowsRead}
 
 -- the file: its chunks one after the other
 unfoldable pub joined : List (List ℕ) → List ℕ
@@ -35,6 +35,5 @@ leftAt at [] = []
 leftAt at (chunk ∷ chunks) = drop at chunk ++ joined chunks
 
 -- rows that were pulled, and then the others
-abbrev pub rowsThen : List Sample → Answer (List Sample) → Answer (List Sample)
-rowsThen rows (accepted others) = accepted (rows ++ others)
-rowsThen rows (refused number place) = refused number place
+abbrev pub rowsThen : List Sample → RowsRead → RowsRead
+rowsThen rows r = record { rows = rows ++ r .rows; verdict = r .verdict }

@@ -1,8 +1,8 @@
 -- Document 01, "A row holds until the next": what each second is handed, of a sample file that comes in chunks.
 -- What a call owes is stated over every rest of the file, so that calls chain.
-use Prim.Native.Nat.{ℕ, zero, suc, _+_, _≤_, _<_, min}
+use Prim.Native.Nat.{ℕ, zero, suc, _+_, _-_, _≤_, _<_, min, max}
 use mathlib.Core.Path.{_≡_}
-use mathlib.Core.Bool.{Bool, true, false}
+use mathlib.Core.Bool.{Bool, true, false, not}
 use mathlib.Core.List.{List, [], _∷_, _++_}
 use lib.ListN.{length, drop}
 use lib.Dec.{leb}
@@ -11,7 +11,7 @@ use Rattle.rules.specs.declared.samples.Sample.{Sample}
 use Rattle.rules.specs.declared.run.Inputs.{Inputs}
 use Rattle.rules.specs.Numbers.{if_then_else_}
 use Rattle.rules.specs.Bytes.{LF}
-use Rattle.rules.specs.Answers.{Answer, accepted, refused, refusalOf}
+use Rattle.rules.specs.Answers.{Answer, accepted, isAccepted, refusalOf}
 use Rattle.rules.specs.SampleFile.{holding}
 use Rattle.rules.specs.Run.{inputsOf}
 use Rattle.sheet.specs.declared.headings.Columns.{Columns}
@@ -26,22 +26,22 @@ use Rattle.samples.specs.declared.inputs.InForce.{InForce}
 use Rattle.samples.specs.declared.inputs.Begun.{Begun}
 use Rattle.samples.specs.declared.inputs.Reached.{Reached}
 use Rattle.samples.specs.declared.usual_seconds.Told.{Told}
-use Rattle.samples.specs.ToCome.{rowFirst}
+use Rattle.samples.specs.ToCome.{RowsRead, rowFirst, allRead}
 use Rattle.samples.specs.Streamed.{yetToCome, isRefused}
 
 -- ---- the rows that are still to come into force
 
 -- the rows that are known to be ahead, and then those that the reader has not handed over yet
-abbrev pub rowsAhead : Ahead → Answer (List Sample) → Answer (List Sample)
+abbrev pub rowsAhead : Ahead → RowsRead → RowsRead
 rowsAhead Ahead.Unread others = others
 rowsAhead (Ahead.Next x) others = rowFirst (Found.Row x) others
-rowsAhead (Ahead.LastTwo x y) others = accepted (x ∷ y ∷ [])
-rowsAhead (Ahead.Last x) others = accepted (x ∷ [])
-rowsAhead Ahead.Ended others = accepted []
-rowsAhead (Ahead.Refused r) others = refusalOf r
+rowsAhead (Ahead.LastTwo x y) others = allRead (x ∷ y ∷ [])
+rowsAhead (Ahead.Last x) others = allRead (x ∷ [])
+rowsAhead Ahead.Ended others = allRead []
+rowsAhead (Ahead.Refused r) others = record { rows = []; verdict = refusalOf r }
 
--- where `rest` is left of the file
-unfoldable pub sourceRows : InputSource → List ℕ → Answer (List Sample)
+-- where `rest` is left of the file: up to the first refused line, beside that refusal
+unfoldable pub sourceRows : InputSource → List ℕ → RowsRead
 sourceRows s rest = rowsAhead (s .ahead) (yetToCome (s .reader) rest)
 
 -- no rest of the file changes what is ahead
@@ -53,13 +53,21 @@ isEnded (Ahead.Last x) = true
 isEnded Ahead.Ended = true
 isEnded (Ahead.Refused r) = true
 
+abbrev pub isRefusal : Ahead → Bool
+isRefusal Ahead.Unread = false
+isRefusal (Ahead.Next x) = false
+isRefusal (Ahead.LastTwo x y) = false
+isRefusal (Ahead.Last x) = false
+isRefusal Ahead.Ended = false
+isRefusal (Ahead.Refused r) = true
+
 abbrev pub sourceEnded : InputSource → Bool
 sourceEnded s = isEnded (s .ahead)
 
--- the file was refused, or a line of it was
+-- the file was refused, and no row of it is left: of a row that is ahead the seconds before it can be told
 abbrev pub refusedAhead : Ahead → Bool → Bool
 refusedAhead Ahead.Unread line = line
-refusedAhead (Ahead.Next x) line = line
+refusedAhead (Ahead.Next x) line = false
 refusedAhead (Ahead.LastTwo x y) line = false
 refusedAhead (Ahead.Last x) line = false
 refusedAhead Ahead.Ended line = false
@@ -84,12 +92,22 @@ inputsIn (suc n) (l ∷ loads) (s ∷ solars) [] = []
 inputsIn (suc n) (l ∷ loads) (s ∷ solars) (h ∷ sheddables) =
     record { load = l; solar = s; sheddable = h } ∷ inputsIn n loads solars sheddables
 
--- the row `now′` in force and the rows `rows′` to come are the last of what was in force and to come, and from second t on they are
--- held as those were
+-- the greatest time of these rows, and 0 where there is none: of an accepted file's rows the last one's
+unfoldable pub latest : List Sample → ℕ
+latest [] = 0
+latest (x ∷ rows) = max (x .at) (latest rows)
+
+-- the row `now′` in force and the rows `rows′` to come are the last of what was in force and to come, from second t on they are
+-- held as those were, and none of the others is later than t
 pub record Onward (now : Sample) (rows : List Sample) (t : ℕ) (now′ : Sample) (rows′ : List Sample) : Type 0 where
   pub passed : ℕ
   pub last : drop passed (now ∷ rows) ≡ now′ ∷ rows′
   pub held : (n : ℕ) → heldFrom now rows t n ≡ heldFrom now′ rows′ t n
+  pub came : (m : ℕ) → t ≤ m → latest rows′ ≤ m → latest rows ≤ m
+
+-- a second can be told: no line is refused, or a row before the refused one is later
+abbrev pub Tellable : RowsRead → ℕ → Type 0
+Tellable r t = isAccepted (r .verdict) ≡ false → t < latest (r .rows)
 
 -- ---- the row in force at a second
 
@@ -113,31 +131,32 @@ abbrev pub readerAt : Begun → List ℕ → SampleReader
 readerAt b line = record { line = line; len = b .len; stage = b .stage }
 
 -- where second t was reached: the rows to come, and whether the row in force is known to be that second's
-pub record AtSecond (now : Sample) (rows : List Sample) (t : ℕ) (r : Reached) (line left : List ℕ) : Type 0 where
-  pub others : List Sample
-  pub comes : rowsAhead (r .ahead) (yetToCome (readerAt (r .begun) line) left) ≡ accepted others
-  pub onward : Onward now rows t (r .now) others
-  pub force : r .told ≡ true → holding (r .now) others t ≡ r .now
+pub record AtSecond (now : Sample) (before : RowsRead) (t : ℕ) (r : Reached) (after : RowsRead) : Type 0 where
+  pub verdict : after .verdict ≡ before .verdict
+  pub onward : Onward now (before .rows) t (r .now) (after .rows)
+  pub force : r .told ≡ true → holding (r .now) (after .rows) t ≡ r .now
+  pub tells : r .told ≡ true → isRefusal (r .ahead) ≡ false → Tellable after t
 
 -- what reaching a second owes, with a chunk from a place on
 pub record ReachedRight (b : Begun) (line : List ℕ) (now : Sample) (ahead : Ahead) (t : ℕ) (chunk : List ℕ) (at : ℕ) (r : Reached) : Type 0 where
-  pub rows : (rest : List ℕ) (rows : List Sample) → rowsAhead ahead (yetToCome (readerAt b line) (drop at chunk ++ rest)) ≡ accepted rows
-      → AtSecond now rows t r line (drop (r .next) chunk ++ rest)
+  pub rows : (rest : List ℕ) → AtSecond now (rowsAhead ahead (yetToCome (readerAt b line) (drop at chunk ++ rest))) t r (rowsAhead (r .ahead) (yetToCome (readerAt (r .begun) line) (drop (r .next) chunk ++ rest)))
   pub within : r .next ≤ length chunk
   pub onward : min at (length chunk) ≤ r .next
   pub further : r .told ≡ false → indexOf LF (drop (r .next) chunk) ≡ length (drop (r .next) chunk)
   pub wanted : r .told ≡ false → isEnded ahead ≡ false
+  pub unread : r .told ≡ false → r .ahead ≡ Ahead.Unread
   pub ended : isEnded (r .ahead) ≡ isEnded ahead
+  pub refusal : isRefusal (r .ahead) ≡ isRefusal ahead
 
 -- ---- what filling owes
 
--- where so many seconds were told: the rows to come, and the seconds before and after
-pub record HeldOn (now : Sample) (rows : List Sample) (second : ℕ) (r : Filled) (left loads solars sheddables : List ℕ) : Type 0 where
-  pub others : List Sample
-  pub comes : sourceRows (r .source) left ≡ accepted others
+-- where so many seconds were told: the refusal stays, and the seconds told are those of the rows before it
+pub record HeldOn (now : Sample) (before : RowsRead) (second : ℕ) (r : Filled) (after : RowsRead) (loads solars sheddables : List ℕ) : Type 0 where
+  pub verdict : after .verdict ≡ before .verdict
   pub passed : ℕ
-  pub last : drop passed (now ∷ rows) ≡ r .source .now ∷ others
-  pub told : (n : ℕ) → heldFrom now rows second (r .seconds + n) ≡ inputsIn (r .seconds) loads solars sheddables ++ heldFrom (r .source .now) others (second + r .seconds) n
+  pub last : drop passed (now ∷ before .rows) ≡ r .source .now ∷ after .rows
+  pub told : (n : ℕ) → heldFrom now (before .rows) second (r .seconds + n) ≡ inputsIn (r .seconds) loads solars sheddables ++ heldFrom (r .source .now) (after .rows) (second + r .seconds) n
+  pub came : (m : ℕ) → second + r .seconds ≤ m → latest (after .rows) ≤ m → latest (before .rows) ≤ m
 
 -- one place for each second: the shortest of the three slices
 abbrev pub placesOf : List ℕ → List ℕ → List ℕ → ℕ
@@ -149,9 +168,8 @@ pub record KeptFrom (n : ℕ) (before after : List ℕ) : Type 0 where
   pub rest : drop n after ≡ drop n before
 
 pub record FilledRight (s : InputSource) (second : ℕ) (chunk : List ℕ) (at : ℕ) (loads₀ solars₀ sheddables₀ : List ℕ) (r : Filled) (loads solars sheddables : List ℕ) : Type 0 where
-  -- of every rest of the file that makes it an accepted one
-  pub inputs : (rest : List ℕ) (rows : List Sample) → sourceRows s (drop at chunk ++ rest) ≡ accepted rows
-      → HeldOn (s .now) rows second r (drop (r .next) chunk ++ rest) loads solars sheddables
+  -- of every rest of the file, whether or not a line of it is refused
+  pub inputs : (rest : List ℕ) → HeldOn (s .now) (sourceRows s (drop at chunk ++ rest)) second r (sourceRows (r .source) (drop (r .next) chunk ++ rest)) loads solars sheddables
   pub within : r .next ≤ length chunk
   pub onward : min at (length chunk) ≤ r .next
   pub most : r .seconds ≤ placesOf loads₀ solars₀ sheddables₀
@@ -159,7 +177,10 @@ pub record FilledRight (s : InputSource) (second : ℕ) (chunk : List ℕ) (at :
   pub short : r .seconds < placesOf loads₀ solars₀ sheddables₀ → r .next ≡ length chunk
   -- and where the file has ended, only a refusal
   pub all : sourceEnded s ≡ true → sourceRefused s ≡ false → r .seconds ≡ placesOf loads₀ solars₀ sheddables₀
-  pub none : sourceRefused s ≡ true → r .seconds ≡ 0
+  -- no second is told that no row before a refusal follows
+  pub before : (rest : List ℕ) → 0 < r .seconds → isAccepted (sourceRows s (drop at chunk ++ rest) .verdict) ≡ false → second + r .seconds ≤ latest (sourceRows s (drop at chunk ++ rest) .rows)
+  -- and a source is refused once each of them is told
+  pub refused : (rest : List ℕ) → sourceRefused (r .source) ≡ true → r .seconds ≡ min (placesOf loads₀ solars₀ sheddables₀) (latest (sourceRows s (drop at chunk ++ rest) .rows) - second)
   pub ended : sourceEnded (r .source) ≡ sourceEnded s
   pub keptLoads : KeptFrom (r .seconds) loads₀ loads
   pub keptSolars : KeptFrom (r .seconds) solars₀ solars
@@ -181,12 +202,13 @@ filledAt t line = record { source = record { reader = readerAt (t .begun) line; 
 
 -- what is owed of the seconds told so far, whether or not others can be told
 pub record Filling (s : InputSource) (second : ℕ) (chunk : List ℕ) (at : ℕ) (loads₀ solars₀ sheddables₀ : List ℕ) (r : Filled) (loads solars sheddables : List ℕ) : Type 0 where
-  pub inputs : (rest : List ℕ) (rows : List Sample) → sourceRows s (drop at chunk ++ rest) ≡ accepted rows
-      → HeldOn (s .now) rows second r (drop (r .next) chunk ++ rest) loads solars sheddables
+  pub inputs : (rest : List ℕ) → HeldOn (s .now) (sourceRows s (drop at chunk ++ rest)) second r (sourceRows (r .source) (drop (r .next) chunk ++ rest)) loads solars sheddables
   pub within : r .next ≤ length chunk
   pub onward : min at (length chunk) ≤ r .next
   pub most : r .seconds ≤ placesOf loads₀ solars₀ sheddables₀
+  pub before : (rest : List ℕ) → 0 < r .seconds → isRefusal (s .ahead) ≡ false → isAccepted (sourceRows s (drop at chunk ++ rest) .verdict) ≡ false → second + r .seconds ≤ latest (sourceRows s (drop at chunk ++ rest) .rows)
   pub ended : sourceEnded (r .source) ≡ sourceEnded s
+  pub refusal : isRefusal (r .source .ahead) ≡ isRefusal (s .ahead)
   pub keptLoads : KeptFrom (r .seconds) loads₀ loads
   pub keptSolars : KeptFrom (r .seconds) solars₀ solars
   pub keptSheddables : KeptFrom (r .seconds) sheddables₀ sheddables
@@ -216,10 +238,14 @@ aheadAtEnd (Ahead.Last x) e = Ahead.Last x
 aheadAtEnd Ahead.Ended e = Ahead.Ended
 aheadAtEnd (Ahead.Refused r) e = Ahead.Refused r
 
+-- a file that is refused at its end has no further second
+abbrev pub atEndOf : RowsRead → RowsRead
+atEndOf r = if isAccepted (r .verdict) then r else record { rows = []; verdict = r .verdict }
+
 pub record EndedRight (s r : InputSource) : Type 0 where
   -- no byte was left, and whatever is said to follow changes nothing
-  pub rows : (rest : List ℕ) → sourceRows r rest ≡ sourceRows s []
+  pub rows : (rest : List ℕ) → sourceRows r rest ≡ atEndOf (sourceRows s [])
   pub held : r .now ≡ s .now
   pub ended : sourceEnded r ≡ true
-  -- refused only where the file is
-  pub right : (rows : List Sample) → sourceRows s [] ≡ accepted rows → sourceRefused r ≡ false
+  -- refused exactly where the file is
+  pub right : sourceRefused r ≡ not (isAccepted (sourceRows s [] .verdict))

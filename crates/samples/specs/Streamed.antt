@@ -9,7 +9,7 @@ use Rattle.bytes.specs.Bytes.{indexOf}
 use Rattle.rules.specs.declared.samples.Sample.{Sample}
 use Rattle.rules.specs.Bytes.{LF, parts}
 use Rattle.rules.specs.Lines.{Line, withoutCR, linesOf}
-use Rattle.rules.specs.Answers.{Answer, accepted, refused, refusalOf, _>>=_}
+use Rattle.rules.specs.Answers.{Answer, accepted, refusalOf, _>>=_, _>>_}
 use Rattle.rules.specs.SampleFile.{sampleFile}
 use Rattle.sheet.specs.declared.headings.Columns.{Columns}
 use Rattle.sheet.specs.declared.usual.Usual.{Usual}
@@ -25,7 +25,7 @@ use Rattle.samples.specs.declared.check.Span.{Span}
 use Rattle.samples.specs.declared.check.SampleCheck.{SampleCheck}
 use Rattle.samples.specs.declared.check.RowsCounted.{RowsCounted}
 use Rattle.samples.specs.declared.check.Checked.{Checked}
-use Rattle.samples.specs.ToCome.{mostPlace, toCome, rowFirst}
+use Rattle.samples.specs.ToCome.{mostPlace, RowsRead, toCome, rowFirst, allRead}
 
 -- ---- lines
 
@@ -49,8 +49,8 @@ linesAfter begun rest = linesOf (begunWith begun (parts LF rest))
 abbrev pub begunIn : SampleReader → List ℕ
 begunIn m = take (m .len) (m .line)
 
--- the rows that the reader has not handed over yet, where `rest` is left of the file
-unfoldable pub yetToCome : SampleReader → List ℕ → Answer (List Sample)
+-- the rows that the reader has not handed over yet, up to the first refused line, and that refusal, where `rest` is left of the file
+unfoldable pub yetToCome : SampleReader → List ℕ → RowsRead
 yetToCome m rest = toCome (m .stage) (linesAfter (begunIn m) rest)
 
 abbrev pub isRow : Found → Bool
@@ -89,10 +89,10 @@ pub record PulledRight (m : SampleReader) (chunk : List ℕ) (at : ℕ) (r : Pul
   pub exhausted : isRow (r .found) ≡ false → r .next ≡ length chunk
 
 -- what the end of the file gives
-abbrev pub endingOf : Ending → Answer (List Sample)
-endingOf (Ending.LastRow x) = accepted (x ∷ [])
-endingOf Ending.NoRow = accepted []
-endingOf (Ending.Refused r) = refusalOf r
+abbrev pub endingOf : Ending → RowsRead
+endingOf (Ending.LastRow x) = allRead (x ∷ [])
+endingOf Ending.NoRow = allRead []
+endingOf (Ending.Refused r) = record { rows = []; verdict = refusalOf r }
 
 -- ---- the check
 
@@ -120,9 +120,8 @@ unfoldable pub spanAfter : Span → List Sample → Span
 spanAfter s [] = s
 spanAfter s (x ∷ rows) = spanAfter (oneMore s (Found.Row x)) rows
 
-abbrev pub spanned : Span → Answer (List Sample) → Answer Span
-spanned s (accepted rows) = accepted (spanAfter s rows)
-spanned s (refused number place) = refused number place
+abbrev pub spanned : Span → RowsRead → Answer Span
+spanned s r = r .verdict >> accepted (spanAfter s (r .rows))
 
 -- what the check comes to, where `rest` is left of the file
 unfoldable pub checkedWith : SampleCheck → List ℕ → Answer Span

@@ -4,8 +4,8 @@ ghost use Prim.Native.Nat.{ℕ, _≤_, min};
 ghost use mathlib.Core.Bool.{true, false};
 ghost use mathlib.Core.List.{List, []};
 ghost use lib.ListN.{length};
-ghost use Rattle.rules.specs.SampleFile.{sampleFile, beforeAll};
-ghost use Rattle.samples.specs.ToCome.{placed};
+ghost use Rattle.rules.specs.SampleFile.{beforeAll};
+ghost use Rattle.samples.specs.ToCome.{fileRows};
 ghost use Rattle.samples.specs.Held.{sourceRows, sourceEnded, sourceRefused, lastComesIn, comesIn, aheadAtEnd, readerAt, filledAt, ReachedRight, FilledRight, EndedRight};
 use crate::check::line_refused;
 use crate::reader::Ending;
@@ -184,7 +184,7 @@ fn reach(
 
 // From the file's first byte.
 pub fn inputs() -> InputSource
-    ensures { λ r. ⌜ ((rest : List ℕ) → sourceRows r rest ≡ placed (sampleFile rest)) ⌝ }
+    ensures { λ r. ⌜ ((rest : List ℕ) → sourceRows r rest ≡ fileRows rest) ⌝ }
     ensures { λ r. ⌜ (r .now ≡ beforeAll) × (r .ahead ≡ Ahead.Unread) ⌝ }
 {
     InputSource {
@@ -199,7 +199,7 @@ pub fn inputs() -> InputSource
     }
 }
 
-// Whether the file was refused, so that it is not the one that was checked.
+// Whether the file was refused and no row of it is left, so that it is not the one that was checked.
 pub fn source_refused(source: InputSource) -> bool
     ensures { λ r. ⌜ r ≡ sourceRefused source ⌝ }
 {
@@ -208,7 +208,7 @@ pub fn source_refused(source: InputSource) -> bool
     let ahead = source.ahead;
     match ahead {
         Ahead::Unread => line_refused(stage),
-        Ahead::Next(_) => line_refused(stage),
+        Ahead::Next(_) => false,
         Ahead::LastTwo(_, _) => false,
         Ahead::Last(_) => false,
         Ahead::Ended => false,

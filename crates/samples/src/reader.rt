@@ -6,11 +6,11 @@ ghost use mathlib.Core.List.{List, [], _∷_, _++_};
 ghost use lib.ListN.{length, take};
 ghost use lib.Dec.{leb};
 ghost use Rattle.bytes.specs.Bytes.{indexOf};
-ghost use Rattle.rules.specs.SampleFile.{sampleFile};
 ghost use Rattle.rules.specs.Bytes.{LF};
 ghost use Rattle.rules.specs.Lines.{Line, ended as endedLine, withoutCR};
-ghost use Rattle.samples.specs.ToCome.{placed, toCome, rowFirst};
-ghost use Rattle.samples.specs.Streamed.{usualLater, textOf, yetToCome, LineRight, NextRight, PulledRight, endingOf};
+ghost use Rattle.samples.specs.ToCome.{toCome, fileRows, rowFirst};
+ghost use Rattle.samples.specs.Streamed.{usualLater, textOf, yetToCome, isRow, LineRight, NextRight, PulledRight, endingOf};
+ghost use Rattle.rules.specs.Answers.{accepted};
 use crate::stage::Found;
 use crate::stage::Stage;
 use crate::stage::Turn;
@@ -180,7 +180,7 @@ pub(crate) fn kept(reader: SampleReader, more: &[u8]) -> SampleReader
 
 // A reader of the rows of a file, from its first byte.
 pub fn reader() -> SampleReader
-    ensures { λ r. ⌜ ((rest : List ℕ) → yetToCome r rest ≡ placed (sampleFile rest)) ⌝ }
+    ensures { λ r. ⌜ ((rest : List ℕ) → yetToCome r rest ≡ fileRows rest) ⌝ }
 {
     SampleReader {
         line: [0; 512],
@@ -324,8 +324,9 @@ pub fn pull(reader: SampleReader, chunk: &[u8], at: usize) -> Pulled
     }
 }
 
-// The end of the file after a line that gave this.
+// The end of the file after a line that gave this; a line that gives a row leaves no refusal.
 fn ended_at(turn: Turn) -> Ending
+    requires { ⌜ (isRow (turn .found) ≡ true → toCome (turn .stage) [] .verdict ≡ accepted tt) ⌝ }
     ensures { λ r. ⌜ endingOf r ≡ rowFirst (turn .found) (toCome (turn .stage) []) ⌝ }
 {
     let stage = turn.stage;

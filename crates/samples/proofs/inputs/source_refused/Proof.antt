@@ -1,6 +1,5 @@
 -- `samples::inputs::source_refused` meets its contract. Assumes nothing.
 use borrow.Author.Needs.{needs}
-use borrow.Author.Needs.{needs}
 use Rattle.samples.specs.Held.{sourceRefused}
 use Rattle.samples.proofs.inputs.source_refused.Statement.{statement}
 use Rattle.samples.proofs.inputs.source_refused.Tie as tie
@@ -19,10 +18,6 @@ line-refused-requires c κs = search needs
 -- src/inputs.rt:208:27
 enum-told-2 : tie.Need-enum-told-2
 enum-told-2 c = search needs
-
--- src/inputs.rt:208:27
-line-refused-requires-2 : tie.Need-line-refused-requires-2
-line-refused-requires-2 c κs = search needs
 
 -- src/inputs.rt:209:33
 enum-told-3 : tie.Need-enum-told-3
@@ -48,7 +43,7 @@ returns c = rw (c .before .enum-told .given .1) (c .line-refused .ensures)
 -- src/inputs.rt:200:1
 returns-2 : tie.Need-returns-2
 unfolding sourceRefused
-returns-2 c = rw (c .before .enum-told2 .given .1) (c .line-refused2 .ensures)
+returns-2 c = rw (c .enum-told2 .given .1)
 
 -- src/inputs.rt:200:1
 returns-3 : tie.Need-returns-3
@@ -77,7 +72,6 @@ source-refused-spec =
     enum-told
     line-refused-requires
     enum-told-2
-    line-refused-requires-2
     enum-told-3
     enum-told-4
     enum-told-5

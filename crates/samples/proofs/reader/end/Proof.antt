@@ -7,6 +7,8 @@ use lib.ListN.{length, take, length-map, length-take}
 use borrow.Author.Needs.{needs}
 use Rattle.samples.specs.ToCome.{toCome}
 use Rattle.samples.specs.Streamed.{linesAfter, yetToCome}
+use Rattle.rules.proofs.Tests.{never}
+use Rattle.samples.proofs.StageLaws.{row-ends}
 use Rattle.samples.proofs.LineLaws.{held-is, line-at-end, last-line}
 use Rattle.samples.proofs.reader.end.Statement.{statement}
 use Rattle.samples.proofs.reader.end.Tie as tie
@@ -22,7 +24,7 @@ lesser-requires c κs = search needs
 
 -- src/reader.rt:222:9
 ended-at-requires : tie.Need-ended-at-requires
-ended-at-requires c κs = search needs
+ended-at-requires c κs = λ h. never h
 
 -- src/reader.rt:222:9
 returns : tie.Need-returns
@@ -52,7 +54,7 @@ whole-line-requires c κs = search needs
 
 -- src/reader.rt:227:5
 ended-at-requires-2 : tie.Need-ended-at-requires-2
-ended-at-requires-2 c κs = search needs
+ended-at-requires-2 c κs = row-ends _ _ (c .whole-line .result .found) _ (c .whole-line .ensures)
 
 -- src/reader.rt:215:1
 returns-2 : tie.Need-returns-2

@@ -17,7 +17,7 @@ enum-known-verdict c = search needs
 
 -- src/reader.rt:205:9
 returns : tie.Need-returns
-returns c = ending-refused (c .before .before .before .before .args .turn .found) _ _ _ (c .before .verdict .given .1) (c .before .before .before .verdict-at .ensures)
+returns c = ending-refused (c .before .before .before .before .args .turn .found) _ _ _ (c .before .verdict .given .1) (c .before .before .before .verdict-at .ensures) (c .before .before .before .before .pre)
 
 enum-told : tie.Need-enum-told
 enum-told c = search needs

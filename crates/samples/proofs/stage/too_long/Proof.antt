@@ -33,15 +33,15 @@ returns c = λ l ls rest h. rw (c .enum-told .given .1) (long-heading l ls rest 
 
 -- src/stage.rt:128:1
 returns-2 : tie.Need-returns-2
-returns-2 c = λ l ls rest h. rw (c .enum-told2 .given .1) (long-first _ l ls rest h)
+returns-2 c = λ l ls rest h. rw (c .enum-told2 .given .1) (long-first l ls rest h _)
 
 -- src/stage.rt:128:1
 returns-3 : tie.Need-returns-3
-returns-3 c = λ l ls rest h. rw (c .before .before .stage .given .1) (long-later _ _ _ l ls rest _ (c .next-line .ensures) h)
+returns-3 c = λ l ls rest h. rw (c .before .before .stage .given .1) (long-later l ls rest h _ _ _ _ (c .next-line .ensures))
 
 -- src/stage.rt:128:1
 returns-4 : tie.Need-returns-4
-returns-4 c = λ l ls rest h. rw (c .before .stage2 .given .1) (long-refused _ l ls rest)
+returns-4 c = λ l ls rest h. rw (c .before .stage2 .given .1) (long-refused l ls rest h _)
 
 pub too-long-spec : {M : Type 1} → statement M
 too-long-spec =
