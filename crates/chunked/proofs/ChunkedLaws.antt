@@ -7,17 +7,16 @@ use lib.ListN.{length, take, drop, take-append-drop, length-take, length-drop}
 use lib.Seq.{drop-drop}
 use Rattle.rules.specs.declared.samples.Sample.{Sample}
 use Rattle.rules.specs.declared.answers.Refusal.{Refusal}
-use Rattle.rules.specs.Answers.{Answer, accepted, refused}
 use Rattle.samples.specs.declared.stage.Found.{Found}
 use Rattle.samples.specs.declared.reader.SampleReader.{SampleReader}
 use Rattle.samples.specs.declared.reader.Pulled.{Pulled}
 use Rattle.samples.specs.declared.reader.Ending.{Ending}
 use Rattle.samples.specs.declared.check.SampleCheck.{SampleCheck}
-use Rattle.samples.specs.ToCome.{placed, rowFirst}
+use Rattle.samples.specs.ToCome.{RowsRead, rowFirst, allRead}
 use Rattle.samples.specs.Streamed.{yetToCome, PulledRight, endingOf, checkedWith}
 use Rattle.samples.proofs.CheckLaws.{pull-ahead}
 use Rattle.chunked.specs.declared.Sought.{Sought}
-use Rattle.chunked.specs.Answers.{rowAt, rowAnswer, foundAnswer}
+use Rattle.chunked.specs.Answers.{rowAt}
 use Rattle.chunked.specs.Seeking.{chunkEnd, soughtIn}
 
 -- ---- where a chunk ends
@@ -84,7 +83,7 @@ module _ (file : List ℕ) (start end : ℕ) (ahead : start < end) (within : end
         let w : p .next ≤ length (chunkOf start end file) = right .within in
         (a, omega arith)
 
-    pub row-pulled : (s t : Sought) → ((rows : Answer (List Sample)) → soughtIn s (rowFirst (p .found) rows) ≡ soughtIn t rows)
+    pub row-pulled : (s t : Sought) → ((rows : RowsRead) → soughtIn s (rowFirst (p .found) rows) ≡ soughtIn t rows)
         → soughtIn s (yetToCome m (drop (start + next) file)) ≡ soughtIn t (yetToCome (p .reader) (drop (start + p .next) file))
     row-pulled s t step =
         let rest = drop end file in
@@ -96,47 +95,32 @@ module _ (file : List ℕ) (start end : ℕ) (ahead : start < end) (within : end
 -- ---- the row that is sought
 
 module _ (x : Sample) where
-  pub row-asked : (before : ℕ) → before ≡ 0 → (rows : Answer (List Sample)) → soughtIn (Sought.After before) (rowFirst (Found.Row x) rows) ≡ soughtIn (Sought.Came x) rows
+  pub row-asked : (before : ℕ) → before ≡ 0 → (rows : RowsRead) → soughtIn (Sought.After before) (rowFirst (Found.Row x) rows) ≡ soughtIn (Sought.Came x) rows
   unfolding rowAt
-  row-asked zero h (accepted rows) = refl
-  row-asked (suc before) h (accepted rows) = absurd (omega arith)
-  row-asked before h (refused number place) = refl
+  row-asked zero h rows = refl
+  row-asked (suc before) h rows = absurd (omega arith)
 
-  pub row-before : (before : ℕ) → (before ≡ 0 → ⊥) → (rows : Answer (List Sample)) → soughtIn (Sought.After before) (rowFirst (Found.Row x) rows) ≡ soughtIn (Sought.After (before - 1)) rows
+  pub row-before : (before : ℕ) → (before ≡ 0 → ⊥) → (rows : RowsRead) → soughtIn (Sought.After before) (rowFirst (Found.Row x) rows) ≡ soughtIn (Sought.After (before - 1)) rows
   unfolding rowAt
-  row-before zero h (accepted rows) = absurd (h refl)
-  row-before (suc before) h (accepted rows) = let e : before ≡ suc before - 1 = omega arith in ap (λ (n : ℕ). rowAt n rows) e
-  row-before before h (refused number place) = refl
-
-  pub row-stays : (y : Sample) (rows : Answer (List Sample)) → soughtIn (Sought.Came x) (rowFirst (Found.Row y) rows) ≡ soughtIn (Sought.Came x) rows
-  row-stays y (accepted rows) = refl
-  row-stays y (refused number place) = refl
+  row-before zero h rows = absurd (h refl)
+  row-before (suc before) h rows = let e : before ≡ suc before - 1 = omega arith in ap (λ (n : ℕ). rowAt n (rows .rows)) e
 
 -- ---- the ends of the file
-
-pub none-refused : (s : Sought) (number place : ℕ) → Found.Nothing ≡ soughtIn s (refused number place)
-none-refused (Sought.After before) number place = refl
-none-refused (Sought.Came x) number place = refl
 
 module _ (m : SampleReader) (s : Sought) (e : Ending) (h : endingOf e ≡ yetToCome m []) where
   ending : (f : Ending) → e ≡ f → soughtIn s (endingOf f) ≡ soughtIn s (yetToCome m [])
   ending f is = ap (λ (g : Ending). soughtIn s (endingOf g)) (sym is) ∙ ap (soughtIn s) h
 
-  pub last-row : (x : Sample) → e ≡ Ending.LastRow x → (t : Sought) → ((rows : Answer (List Sample)) → soughtIn s (rowFirst (Found.Row x) rows) ≡ soughtIn t rows)
-      → soughtIn t (accepted []) ≡ soughtIn s (yetToCome m [])
-  last-row x is t step = sym (step (accepted [])) ∙ ending (Ending.LastRow x) is
+  pub last-row : (x : Sample) → e ≡ Ending.LastRow x → (t : Sought) → ((rows : RowsRead) → soughtIn s (rowFirst (Found.Row x) rows) ≡ soughtIn t rows)
+      → soughtIn t (allRead []) ≡ soughtIn s (yetToCome m [])
+  last-row x is t step = sym (step (allRead [])) ∙ ending (Ending.LastRow x) is
 
-  pub no-row : e ≡ Ending.NoRow → soughtIn s (accepted []) ≡ soughtIn s (yetToCome m [])
+  pub no-row : e ≡ Ending.NoRow → soughtIn s (allRead []) ≡ soughtIn s (yetToCome m [])
   no-row is = ending Ending.NoRow is
 
-  pub refused-end : (r : Refusal) → e ≡ Ending.Refused r → Found.Nothing ≡ soughtIn s (yetToCome m [])
-  refused-end r is = none-refused s _ _ ∙ ending (Ending.Refused r) is
-
--- where a refusal stands changes nothing
-pub row-placed : (row : ℕ) (a : Answer (List Sample)) → soughtIn (Sought.After row) (placed a) ≡ soughtIn (Sought.After row) a
-row-placed row (accepted rows) = refl
-row-placed row (refused number place) = refl
-
-pub row-answered : (row : ℕ) (a : Answer (List Sample)) → foundAnswer (soughtIn (Sought.After row) a) ≡ rowAnswer row a
-row-answered row (accepted rows) = refl
-row-answered row (refused number place) = refl
+  pub refused-end : (r : Refusal) → e ≡ Ending.Refused r → soughtIn s (allRead []) ≡ soughtIn s (yetToCome m [])
+  refused-end r is = no-rows s ∙ ending (Ending.Refused r) is
+    where
+      no-rows : (s : Sought) → soughtIn s (allRead []) ≡ soughtIn s (endingOf (Ending.Refused r))
+      no-rows (Sought.After before) = refl
+      no-rows (Sought.Came x) = refl

@@ -5,6 +5,7 @@ use Rattle.rules.specs.declared.samples.Sample.{Sample}
 use Rattle.rules.specs.Answers.{Answer, accepted, refused}
 use Rattle.samples.specs.declared.stage.Found.{Found}
 use Rattle.samples.specs.declared.check.Span.{Span}
+use Rattle.samples.specs.ToCome.{RowsRead}
 use Rattle.chunked.specs.declared.ChunkedAnswer.{ChunkedAnswer}
 use Rattle.chunked.specs.declared.ChunkedRow.{ChunkedRow}
 
@@ -23,7 +24,6 @@ abbrev pub foundAnswer : Found → ChunkedRow
 foundAnswer (Found.Row x) = record { found = 1; at = x .at; load = x .load; solar = x .solar; sheddable = x .sheddable }
 foundAnswer Found.Nothing = record { found = 0; at = 0; load = 0; solar = 0; sheddable = 0 }
 
--- a refused file has no row
-abbrev pub rowAnswer : ℕ → Answer (List Sample) → ChunkedRow
-rowAnswer k (accepted rows) = foundAnswer (rowAt k rows)
-rowAnswer k (refused number place) = foundAnswer Found.Nothing
+-- the rows of a refused file are those of the lines before the refused one
+abbrev pub rowAnswer : ℕ → RowsRead → ChunkedRow
+rowAnswer k r = foundAnswer (rowAt k (r .rows))

@@ -1,12 +1,9 @@
 // The streamed check and the streamed reader at any chunk size, called from C by the tests. No answer depends on the size.
 ghost use mathlib.Core.Path.{_≡_};
 ghost use Prim.Native.Nat.{_≤_, _<_};
-ghost use mathlib.Core.List.{List, []};
+ghost use mathlib.Core.List.{[]};
 ghost use lib.ListN.{length};
-ghost use Rattle.rules.specs.SampleFile.{sampleFile};
-ghost use Rattle.rules.specs.Answers.{Answer, accepted};
-ghost use Rattle.rules.specs.declared.samples.Sample.{Sample};
-ghost use Rattle.samples.specs.ToCome.{placed, rowFirst};
+ghost use Rattle.samples.specs.ToCome.{placed, RowsRead, fileRows, rowFirst, allRead};
 ghost use Rattle.samples.specs.Streamed.{sheetSpan, checkedOf, checkedWith, yetToCome};
 ghost use Rattle.chunked.specs.Answers.{spanAnswer, rowAnswer, foundAnswer};
 ghost use Rattle.chunked.specs.Seeking.{chunkEnd, soughtIn};
@@ -130,9 +127,9 @@ enum Sought {
     Came(Sample),
 }
 
-// One row less to pass over; the row that is asked for stays, since only the end of the file tells whether it is refused.
+// One row less to pass over; the row that is asked for stays.
 fn passed(sought: Sought, found: Found) -> Sought
-    ensures { λ r. ⌜ ((rows : Answer (List Sample)) → soughtIn sought (rowFirst found rows) ≡ soughtIn r rows) ⌝ }
+    ensures { λ r. ⌜ ((rows : RowsRead) → soughtIn sought (rowFirst found rows) ≡ soughtIn r rows) ⌝ }
 {
     match found {
         Found::Nothing => sought,
@@ -149,7 +146,7 @@ fn passed(sought: Sought, found: Found) -> Sought
 }
 
 fn row_that_came(sought: Sought) -> Found
-    ensures { λ r. ⌜ r ≡ soughtIn sought (accepted []) ⌝ }
+    ensures { λ r. ⌜ r ≡ soughtIn sought (allRead []) ⌝ }
 {
     match sought {
         Sought::Came(row) => Found::Row(row),
@@ -157,20 +154,20 @@ fn row_that_came(sought: Sought) -> Found
     }
 }
 
-// The end of the file, whose last line may give the row, or refuse the file.
+// The end of the file, whose last line may give the row.
 fn row_at_end(reader: SampleReader, sought: Sought) -> Found
     ensures { λ r. ⌜ r ≡ soughtIn sought (yetToCome reader []) ⌝ }
 {
     match end(reader) {
         Ending::LastRow(row) => row_that_came(passed(sought, Found::Row(row))),
         Ending::NoRow => row_that_came(sought),
-        Ending::Refused(_) => Found::Nothing,
+        Ending::Refused(_) => row_that_came(sought),
     }
 }
 
 // All rows of the file, out of one chunk after the other; a chunk is left as soon as its end is reached, so that every pull goes ahead.
 fn row_in_chunks(file: &[u8], size: u64, row: u64) -> Found
-    ensures { λ r. ⌜ r ≡ soughtIn (Sought.After row) (sampleFile (now (file .entry))) ⌝ }
+    ensures { λ r. ⌜ r ≡ soughtIn (Sought.After row) (fileRows (now (file .entry))) ⌝ }
 {
     let mut reading = reader();
     let mut sought = Sought::After(row);
@@ -191,10 +188,11 @@ fn row_in_chunks(file: &[u8], size: u64, row: u64) -> Found
     row_at_end(reading, sought)
 }
 
-// The row with an index, counted from 0, of a file that is read in chunks as those of `chunked_check`.
+// The row with an index, counted from 0, of a file that is read in chunks as those of `chunked_check`; a refused file has the rows of
+// the lines before the refused one.
 #[no_mangle]
 pub extern "C" fn chunked_rows(samples: &[u8], size: u64, row: u64) -> ChunkedRow
-    ensures { λ r. ⌜ r ≡ rowAnswer row (sampleFile (now (samples .entry))) ⌝ }
+    ensures { λ r. ⌜ r ≡ rowAnswer row (fileRows (now (samples .entry))) ⌝ }
 {
     row_answer(row_in_chunks(samples, size, row))
 }

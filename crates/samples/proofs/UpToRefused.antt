@@ -9,9 +9,10 @@ use Rattle.rules.specs.declared.samples.Sample.{Sample}
 use Rattle.rules.specs.Answers.{Answer, accepted, refused, isAccepted, judged, valueOr, _>>_}
 use Rattle.rules.specs.Lines.{Line}
 use Rattle.rules.proofs.Tests.{never}
+use Rattle.rules.proofs.Checks.{not-accepted, same-value}
 use Rattle.samples.specs.declared.stage.Stage.{Stage}
 use Rattle.samples.specs.declared.stage.Found.{Found}
-use Rattle.samples.specs.ToCome.{answerFrom, rowBefore, RowsRead, orElse, longest, upToRefused, toCome, rowFirst, answerOf}
+use Rattle.samples.specs.ToCome.{answerFrom, rowBefore, RowsRead, orElse, longest, upToRefused, toCome, rowFirst, answerOf, allRead}
 use Rattle.samples.specs.Streamed.{isRow}
 
 abbrev Answers : Type 0
@@ -123,6 +124,17 @@ answer-first (Found.Row x) r = go (r .verdict)
     go (accepted u) = refl
     go (refused number place) = refl
 answer-first Found.Nothing r = refl
+
+-- where it is accepted these are all the rows
+pub all-read : (r : RowsRead) → r .verdict ≡ accepted tt → r ≡ allRead (r .rows)
+all-read r e = λ i. record { rows = r .rows; verdict = e i }
+
+pub answer-all : (r : RowsRead) (rows : List Sample) → answerOf r ≡ accepted rows → r ≡ allRead rows
+answer-all r rows e = go (r .verdict) refl e
+  where
+    go : (v : Answer (Unit {0})) → r .verdict ≡ v → (v >> accepted (r .rows)) ≡ accepted rows → r ≡ allRead rows
+    go (accepted u) is e = all-read r is ∙ ap allRead (same-value (r .rows) rows e)
+    go (refused number place) is e = not-accepted number place rows e
 
 -- a row is given by lines of which none is refused
 pub row-accepted : (f : Answers) (l : Line) (x : Sample) (rows : List Sample) → valueOr [] (f []) ≡ [] → upToRefused f (l ∷ []) .rows ≡ x ∷ rows → upToRefused f (l ∷ []) .verdict ≡ accepted tt

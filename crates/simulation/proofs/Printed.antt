@@ -23,9 +23,11 @@ use Rattle.rules.proofs.StationRead.{read-is-right}
 use Rattle.rules.proofs.SampleRows.{RowsRight}
 use Rattle.records.proofs.StartTold.{start-accepted}
 use Rattle.samples.specs.declared.check.Span.{Span}
-use Rattle.samples.specs.ToCome.{placed}
+use Rattle.samples.specs.ToCome.{placed, RowsRead, fileRows, allRead}
 use Rattle.samples.specs.Streamed.{sheetSpan, spanOf}
 use Rattle.samples.specs.Held.{sourceRows, heldFrom}
+use Rattle.samples.proofs.UpToRefused.{answer-all}
+use Rattle.samples.proofs.LineLaws.{file-answer}
 use Rattle.samples.proofs.RowsRight.{start-right, source-rows-right}
 use Rattle.simulation.specs.declared.state.Phase.{Phase}
 use Rattle.simulation.specs.declared.state.Simulation.{Simulation}
@@ -84,8 +86,8 @@ module _ (station samples asked : List ℕ) (st : Station) (rows : List Sample) 
   unfolding startRecord
   done-is = ap (λ (r : Run). r .done) run-is
 
-  accepts : sourceRows (s .source) samples ≡ accepted rows
-  accepts = b .rows samples ∙ rows-are
+  accepts : sourceRows (s .source) samples ≡ allRead rows
+  accepts = b .rows samples ∙ answer-all (fileRows samples) rows (file-answer samples ∙ rows-are)
 
   abbrev xs : List Inputs
   xs = heldFrom (s .source .now) rows (s .run .done) (s .left)
@@ -93,7 +95,7 @@ module _ (station samples asked : List ℕ) (st : Station) (rows : List Sample) 
   right : AllRight (inputsAll (s .source .now ∷ rows))
   right =
       let sr = start-right (s .source) (b .now-is) (b .ahead-is) in
-      more (record { load-most = sr .force .load; solar-most = sr .force .solar; sheddable-most = sr .force .sheddable; sheddable-load = sr .force .agrees }) (rows-right (source-rows-right (s .source) samples rows (sr .ahead) accepts))
+      more (record { load-most = sr .force .load; solar-most = sr .force .solar; sheddable-most = sr .force .sheddable; sheddable-load = sr .force .agrees }) (rows-right (subst RowsRight (ap (λ (r : RowsRead). r .rows) accepts) (source-rows-right (s .source) samples (sr .ahead))))
 
   coming : Coming s samples xs
   coming =

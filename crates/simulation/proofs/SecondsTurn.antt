@@ -10,11 +10,13 @@ use Rattle.rules.specs.declared.station.Station.{Station}
 use Rattle.rules.specs.declared.run.Inputs.{Inputs}
 use Rattle.rules.specs.declared.run.Run.{Run}
 use Rattle.rules.specs.declared.samples.Sample.{Sample}
-use Rattle.rules.specs.Answers.{Answer, accepted, refused}
+use Rattle.rules.specs.Answers.{Answer, accepted, refused, isAccepted}
 use Rattle.rules.specs.RunRecord.{possible}
 use Rattle.samples.specs.declared.inputs.InputSource.{InputSource}
 use Rattle.samples.specs.declared.inputs.Filled.{Filled}
-use Rattle.samples.specs.Held.{sourceRows, sourceEnded, sourceRefused, heldFrom, inputsIn, placesOf, HeldOn, FilledRight, EndedRight}
+use Rattle.samples.specs.ToCome.{RowsRead, allRead}
+use Rattle.samples.specs.Held.{sourceRows, sourceEnded, heldFrom, inputsIn, placesOf, HeldOn, FilledRight, atEndOf, EndedRight}
+use Rattle.samples.proofs.UpToRefused.{all-read}
 use Rattle.samples.proofs.HeldLaws.{source-accepted}
 use Rattle.dispatch.specs.Seconds.{Calls, callsOf, inputsOf}
 use Rattle.simulation.specs.declared.state.Phase.{Phase}
@@ -98,11 +100,14 @@ module _ (t : Turn) (chunk : List ℕ) (ended : Bool) (out : List ℕ) (phase-is
   after = withSeconds t (f .source) (f .next) c .simulation
 
   module _ (rest : List ℕ) (zs : List Inputs) (k : Coming s (drop (t .next) chunk ++ rest) zs) where
-    held : HeldOn (s .source .now) (k .rows) (s .run .done) f (drop (f .next) chunk ++ rest) loads solars sheddables
-    held = fr .inputs rest (k .rows) (k .accepts)
+    abbrev later : RowsRead
+    later = sourceRows (f .source) (drop (f .next) chunk ++ rest)
+
+    held : HeldOn (s .source .now) (allRead (k .rows)) (s .run .done) f later loads solars sheddables
+    held = subst (λ (r : RowsRead). HeldOn (s .source .now) r (s .run .done) f later loads solars sheddables) (k .accepts) (fr .inputs rest)
 
     abbrev others : List Inputs
-    others = heldFrom (f .source .now) (held .others) (s .run .done + f .seconds) (s .left - f .seconds)
+    others = heldFrom (f .source .now) (later .rows) (s .run .done + f .seconds) (s .left - f .seconds)
 
     split : zs ≡ xs ++ others
     split =
@@ -133,8 +138,8 @@ module _ (t : Turn) (chunk : List ℕ) (ended : Bool) (out : List ℕ) (phase-is
             record-possible = all .stays;
             in-time = omega (arith, k .ready .in-time, all .done-is, xs-length, seconds-is, fr .most);
           };
-          rows = held .others;
-          accepts = held .comes;
+          rows = later .rows;
+          accepts = all-read later (held .verdict);
           right = subst (λ (l : List Sample). AllRight (inputsAll l)) (held .last) (drop-right (held .passed) (s .source .now ∷ k .rows) (k .right));
           are = rw (all .done-is, xs-length, seconds-is);
         }
@@ -193,20 +198,26 @@ module _ (t : Turn) (chunk : List ℕ) (ended : Bool) (out : List ℕ) (phase-is
   same-weight = ap unended (fr .ended)
 
   module _ (rest : List ℕ) (zs : List Inputs) (k : Coming was (drop (t .next) chunk ++ rest) zs) where
-    on : HeldOn (was .source .now) (k .rows) (was .run .done) f (drop (f .next) chunk ++ rest) loads solars sheddables
-    on = fr .inputs rest (k .rows) (k .accepts)
+    abbrev to-come : RowsRead
+    to-come = sourceRows (f .source) (drop (f .next) chunk ++ rest)
 
-    still : zs ≡ heldFrom (f .source .now) (on .others) (was .run .done) (was .left)
+    on : HeldOn (was .source .now) (allRead (k .rows)) (was .run .done) f to-come loads solars sheddables
+    on = subst (λ (r : RowsRead). HeldOn (was .source .now) r (was .run .done) f to-come loads solars sheddables) (k .accepts) (fr .inputs rest)
+
+    all-to-come : to-come ≡ allRead (to-come .rows)
+    all-to-come = all-read to-come (on .verdict)
+
+    still : zs ≡ heldFrom (f .source .now) (to-come .rows) (was .run .done) (was .left)
     still =
         let a : f .seconds + was .left ≡ was .left = omega (arith, no-second) in
-        k .are ∙ ap (heldFrom (was .source .now) (k .rows) (was .run .done)) (sym a) ∙ on .told (was .left) ∙ none-told (f .seconds) (was .run .done) (was .left) loads solars sheddables (f .source .now) (on .others) no-second
+        k .are ∙ ap (heldFrom (was .source .now) (k .rows) (was .run .done)) (sym a) ∙ on .told (was .left) ∙ none-told (f .seconds) (was .run .done) (was .left) loads solars sheddables (f .source .now) (to-come .rows) no-second
 
     -- with a source of which the same rows are to come
-    with-rows : (source : InputSource) (left : List ℕ) → source .now ≡ f .source .now → sourceRows source left ≡ accepted (on .others) → Coming (withSource was source) left zs
+    with-rows : (source : InputSource) (left : List ℕ) → source .now ≡ f .source .now → sourceRows source left ≡ allRead (to-come .rows) → Coming (withSource was source) left zs
     with-rows source left now-is comes =
         record {
           ready = record { station-given = k .ready .station-given; tables = k .ready .tables; record-possible = k .ready .record-possible; in-time = k .ready .in-time };
-          rows = on .others;
+          rows = to-come .rows;
           accepts = comes;
           right = rw now-is (subst (λ (l : List Sample). AllRight (inputsAll l)) (on .last) (drop-right (on .passed) (was .source .now ∷ k .rows) (k .right)));
           are = rw now-is still;
@@ -215,7 +226,7 @@ module _ (t : Turn) (chunk : List ℕ) (ended : Bool) (out : List ℕ) (phase-is
     -- a file that has ended tells every second
     never-broken : sourceEnded (f .source) ≡ true → ⊥
     never-broken e =
-        let all = fr .all (sym (fr .ended) ∙ e) (source-accepted (was .source) (drop (t .next) chunk ++ rest) (k .rows) (k .accepts)) in
+        let all = fr .all (sym (fr .ended) ∙ e) (source-accepted (was .source) (drop (t .next) chunk ++ rest) (ap (λ (r : RowsRead). isAccepted (r .verdict)) (k .accepts))) in
         omega (arith, all, no-second)
 
   coming : (rest : List ℕ) (zs : List Inputs) → Comes was (drop (t .next) chunk ++ rest) zs → Coming was (drop (t .next) chunk ++ rest) zs
@@ -228,7 +239,7 @@ module _ (t : Turn) (chunk : List ℕ) (ended : Bool) (out : List ℕ) (phase-is
   awaits : ended ≡ false → Moved t chunk ended out (record { simulation = withSource was (f .source); next = f .next; written = t .written; wants = Wants.Input }) out
   awaits e =
       quiet t chunk ended out (withSource was (f .source)) (f .next) Wants.Input refl (λ xs l. refl)
-      (λ rest h zs k. comes-with (f .source) (drop (f .next) chunk ++ rest) zs (with-rows rest zs (coming rest zs k) (f .source) (drop (f .next) chunk ++ rest) refl (on rest zs (coming rest zs k) .comes)))
+      (λ rest h zs k. comes-with (f .source) (drop (f .next) chunk ++ rest) zs (with-rows rest zs (coming rest zs k) (f .source) (drop (f .next) chunk ++ rest) refl (all-to-come rest zs (coming rest zs k))))
       (fr .within) (omega (arith, fr .onward)) out-in (omega (arith, same-weight)) (used-up, e)
 
   breaks : sourceEnded (f .source) ≡ true → Moved t chunk ended out (record { simulation = withPhase was Phase.Broken; next = f .next; written = t .written; wants = Wants.Further }) out
@@ -246,7 +257,7 @@ module _ (t : Turn) (chunk : List ℕ) (ended : Bool) (out : List ℕ) (phase-is
       let a = ap unended (r .ended) in let b = ap unended (sym (fr .ended) ∙ n) in omega (arith, a, b) in
       quiet t chunk ended out (withSource was after) (f .next) Wants.Further refl (λ xs l. refl)
       (λ rest h zs k. comes-with after (drop (f .next) chunk ++ rest) zs (with-rows rest zs (coming rest zs k) after (drop (f .next) chunk ++ rest) (r .held)
-      (r .rows (drop (f .next) chunk ++ rest) ∙ sym (ap (sourceRows (f .source)) (no-rest rest (h e))) ∙ on rest zs (coming rest zs k) .comes)))
+      (r .rows (drop (f .next) chunk ++ rest) ∙ ap atEndOf (sym (ap (sourceRows (f .source)) (no-rest rest (h e))) ∙ all-to-come rest zs (coming rest zs k)))))
       (fr .within) (omega (arith, fr .onward)) out-in (omega (arith, lighter)) lighter
     where
       no-rest : (rest : List ℕ) → rest ≡ [] → drop (f .next) chunk ++ rest ≡ []

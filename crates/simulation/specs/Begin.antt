@@ -6,11 +6,11 @@ use Rattle.rules.specs.declared.answers.Refusal.{Refusal}
 use Rattle.rules.specs.declared.station.Station.{Station}
 use Rattle.rules.specs.Answers.{Answer, accepted, refused, numberAndPlace, valueOr}
 use Rattle.rules.specs.RunRecord.{start}
-use Rattle.rules.specs.SampleFile.{sampleFile, beforeAll}
+use Rattle.rules.specs.SampleFile.{beforeAll}
 use Rattle.records.specs.NoRun.{noRun}
 use Rattle.samples.specs.declared.check.Span.{Span}
 use Rattle.samples.specs.declared.inputs.Ahead.{Ahead}
-use Rattle.samples.specs.ToCome.{placed}
+use Rattle.samples.specs.ToCome.{fileRows}
 use Rattle.samples.specs.Held.{sourceRows}
 use Rattle.simulation.specs.declared.state.Phase.{Phase}
 use Rattle.simulation.specs.declared.state.Simulation.{Simulation}
@@ -29,7 +29,7 @@ pub record Starting (st : Station) (seconds : ℕ) (s : Simulation) : Type 0 whe
   pub station-is : s .station ≡ st
   pub run-is : s .run ≡ valueOr noRun (start st)
   pub left-is : s .left ≡ seconds
-  pub rows : (rest : List ℕ) → sourceRows (s .source) rest ≡ placed (sampleFile rest)
+  pub rows : (rest : List ℕ) → sourceRows (s .source) rest ≡ fileRows rest
   pub now-is : s .source .now ≡ beforeAll
   pub ahead-is : s .source .ahead ≡ Ahead.Unread
 

@@ -12,6 +12,7 @@ use Rattle.rules.specs.StationRecord.{someFileGives}
 use Rattle.rules.specs.RunRecord.{possible, mostSeconds}
 use Rattle.rules.specs.Run.{inputsOf}
 use Rattle.rules.proofs.Shapes.{Tables}
+use Rattle.samples.specs.ToCome.{allRead}
 use Rattle.samples.specs.Held.{sourceRows, sourceEnded, heldFrom, placesOf, EndedRight}
 use Rattle.dispatch.specs.Seconds.{Calls, callsOf}
 use Rattle.samples.specs.declared.inputs.InputSource.{InputSource}
@@ -40,7 +41,7 @@ inputsAll (x ∷ rows) = inputsOf x ∷ inputsAll rows
 pub record Coming (s : Simulation) (rest : List ℕ) (xs : List Inputs) : Type 0 where
   pub ready : Ready s
   pub rows : List Sample
-  pub accepts : sourceRows (s .source) rest ≡ accepted rows
+  pub accepts : sourceRows (s .source) rest ≡ allRead rows
   pub right : AllRight (inputsAll (s .source .now ∷ rows))
   pub are : xs ≡ heldFrom (s .source .now) rows (s .run .done) (s .left)
 

@@ -1,9 +1,7 @@
 -- `chunked::chunked_rows` meets its contract. Assumes nothing.
 use mathlib.Core.Path.{ap, _∙_}
 use borrow.Author.Needs.{needs}
-use Rattle.rules.specs.SampleFile.{sampleFile}
 use Rattle.chunked.specs.Answers.{foundAnswer}
-use Rattle.chunked.proofs.ChunkedLaws.{row-answered}
 use Rattle.chunked.proofs.chunked_rows.Statement.{statement}
 use Rattle.chunked.proofs.chunked_rows.Tie as tie
 use Rattle.chunked.proofs.chunked_rows.Reads as reads
@@ -22,8 +20,7 @@ row-answer-requires c κs = search needs
 -- src/lib.rt:195:1
 returns : tie.Need-returns
 returns c =
-    let a = c .before .before .before .args in
-    c .row-answer .ensures ∙ ap foundAnswer (c .before .row-in-chunks .ensures) ∙ row-answered (a .row) (sampleFile (a .samples .now))
+    c .row-answer .ensures ∙ ap foundAnswer (c .before .row-in-chunks .ensures)
 
 pub chunked-rows-spec : {M : Type 1} → statement M
 chunked-rows-spec = tie.close (tie.spec row-in-chunks-requires row-answer-requires returns)

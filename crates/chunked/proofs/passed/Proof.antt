@@ -1,6 +1,6 @@
 -- `chunked::passed` meets its contract. Assumes nothing.
 use borrow.Author.Needs.{needs}
-use Rattle.chunked.proofs.ChunkedLaws.{row-asked, row-before, row-stays}
+use Rattle.chunked.proofs.ChunkedLaws.{row-asked, row-before}
 use Rattle.chunked.proofs.passed.Statement.{statement}
 use Rattle.chunked.proofs.passed.Tie as tie
 use Rattle.chunked.proofs.passed.Reads as reads
@@ -36,7 +36,7 @@ returns-2 c = λ rows. rw (c .enum-told .given .1)
 
 -- src/lib.rt:134:1
 returns-3 : tie.Need-returns-3
-returns-3 c = λ rows. rw (c .before .before .before .before .found .given .1, c .before .sought .given .1) (row-stays _ _ rows)
+returns-3 c = λ rows. rw (c .before .before .before .before .found .given .1, c .before .sought .given .1)
 
 -- src/lib.rt:134:1
 returns-4 : tie.Need-returns-4

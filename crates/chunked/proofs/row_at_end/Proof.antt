@@ -38,6 +38,10 @@ row-that-came-requires-2 c κs = search needs
 enum-told-2 : tie.Need-enum-told-2
 enum-told-2 c = search needs
 
+-- src/lib.rt:167:31
+row-that-came-requires-3 : tie.Need-row-that-came-requires-3
+row-that-came-requires-3 c κs = search needs
+
 -- src/lib.rt:161:1
 returns : tie.Need-returns
 returns c = c .row-that-came .ensures ∙ last-row _ (c .before .before .before .before .before .before .args .sought) _ (c .before .before .before .before .before .end .ensures) _ (c .before .before .before .row .given .1) (c .before .passed .result) (c .before .passed .ensures)
@@ -48,7 +52,7 @@ returns-2 c = c .row-that-came2 .ensures ∙ no-row _ (c .before .before .before
 
 -- src/lib.rt:161:1
 returns-3 : tie.Need-returns-3
-returns-3 c = refused-end _ (c .before .before .before .args .sought) _ (c .before .before .end .ensures) _ (c .enum-told2 .given .1)
+returns-3 c = c .row-that-came3 .ensures ∙ refused-end _ (c .before .before .before .before .args .sought) _ (c .before .before .before .end .ensures) _ (c .before .enum-told2 .given .1)
 
 pub row-at-end-spec : {M : Type 1} → statement M
 row-at-end-spec =
@@ -61,6 +65,7 @@ row-at-end-spec =
     enum-told
     row-that-came-requires-2
     enum-told-2
+    row-that-came-requires-3
     returns
     returns-2
     returns-3)

@@ -5,11 +5,11 @@ use mathlib.Core.Path.{_≡_, sym, ap, _∙_}
 use native.Mathlib.Omega.{arith}
 use lib.ListN.{length, drop, drop-of-length-le}
 use borrow.Author.Needs.{needs}
-use Rattle.rules.specs.SampleFile.{sampleFile}
+use Rattle.samples.specs.ToCome.{fileRows}
 use Rattle.samples.specs.Streamed.{yetToCome}
 use Rattle.chunked.specs.declared.Sought.{Sought}
 use Rattle.chunked.specs.Seeking.{chunkEnd, soughtIn}
-use Rattle.chunked.proofs.ChunkedLaws.{end-ahead, row-placed, places, row-pulled}
+use Rattle.chunked.proofs.ChunkedLaws.{end-ahead, places, row-pulled}
 use Rattle.chunked.proofs.row_in_chunks.Statement.{statement}
 use Rattle.chunked.proofs.row_in_chunks.Tie as tie
 use Rattle.chunked.proofs.row_in_chunks.Reads as reads
@@ -23,7 +23,7 @@ use Rattle.samples.proofs.reader.reader.Reads as reader-reads
 abbrev Inv-loop : tie.InvT-loop
 Inv-loop file size row reading₀ sought₀ start₀ next₀ reading sought start next =
     (start < length file → start + next < chunkEnd (length file) start size)
-    × (soughtIn sought (yetToCome reading (drop (start + next) file)) ≡ soughtIn (Sought.After row) (sampleFile file))
+    × (soughtIn sought (yetToCome reading (drop (start + next) file)) ≡ soughtIn (Sought.After row) (fileRows file))
 
 abbrev μ-loop : tie.MeasureT-loop
 μ-loop file size row reading₀ sought₀ start₀ next₀ reading sought start next = length file - (start + next)
@@ -36,7 +36,7 @@ reader-requires c κs = search needs
 loop-holds : tie.Need-loop-holds Inv-loop μ-loop
 loop-holds c =
     let a = c .before .before .args in
-    (λ h. end-ahead _ _ _ h, ap (soughtIn (Sought.After (a .row))) (c .reader .ensures (a .file .now)) ∙ row-placed (a .row) (sampleFile (a .file .now)))
+    (λ h. end-ahead _ _ _ h, ap (soughtIn (Sought.After (a .row))) (c .reader .ensures (a .file .now)))
 
 -- src/lib.rt:180:13
 chunk-end-requires : tie.Need-chunk-end-requires Inv-loop μ-loop
