@@ -3,7 +3,8 @@
 
 Runs the program RUN (target/bin/run_files, which `rt check run_files` builds) as a process on real files and compares what it prints
 byte for byte with what the independent reference program prints: first cases with known answers, then COUNT generated runs and a third
-as many others (sheets of all sizes, up to some 65,536 bytes; stations, half of them damaged), and at last runs of 100,000 seconds. The
+as many others (sheets of all sizes, up to some 65,536 bytes; stations, half of them damaged), then sheets whose plain rows are cut by
+RUN's chunks at every place of a row, and at last runs of 100,000 seconds. The
 known ones, every tenth of the generated ones, each small damaged sheet and some long runs go through SMALL too (target/bin/run_small:
 the same core, fed 7 bytes at a time and emptied by 256). Most print into a pipe; every twentieth and the long ones into a file. RUN
 and SMALL may be commands of several words.
@@ -25,6 +26,8 @@ LONGEST = 60  # seconds for one run; a run that never ends is a fault too
 BATCH = 250  # cases that the reference answers at once
 
 MOST_SECONDS, LAST_SECOND = 100_000, 316_224_000
+CHUNK = 65_536  # bytes that RUN reads at once
+SPLIT_ROWS = 70_000
 SMALL_SHEET = 4096  # bytes; damaged sheets below it all go through SMALL
 LONG_OUTPUT = 1_000_000  # bytes; output above it goes into a file
 NUMBERS = list(range(1, 9)) + list(range(11, 24))  # all that a run program can answer: 24 to 26 are of calls, and not of files
@@ -149,6 +152,27 @@ def irregular_sheet(seconds):
         number += 1
         at += 1 + scattered(number) % [3, 30, 400][number % 3]
     return HEADING_LINE + ''.join(rows)
+
+
+def split_sheet(ending, shape):
+    """Rows of one odd length, so that the ends of the chunks in which RUN reads stand at every place of a row. They are plain ones, which
+    RUN reads in one pass wherever a chunk has room for the longest."""
+    rows = []
+    for at in range(SPLIT_ROWS):
+        number = scattered(at)
+        rows.append(shape % (at, 10 + number % 80, number % 10, number % 7, number % 9, number % 8) + ending)
+    text = HEADING_LINE.replace('\n', ending) + ''.join(rows)
+    length, heading = len(rows[0]), len(HEADING_LINE.replace('\n', ending))
+    met = {(end - heading) % length for end in range(CHUNK, len(text), CHUNK)}
+    if {len(line) for line in rows} != {length} or met != set(range(length)):
+        fail('the chunks end at %d places of a row of %d bytes' % (len(met), length))
+    return text.encode()
+
+
+def split_cases():
+    """Every split of a row across two chunks of RUN, with LF and with CR and LF."""
+    for name, ending, shape in [('LF', '\n', '%05d,%d.%d,%d.%d,%d'), ('CR LF', '\r\n', '%05d,%d.%d,%d.%d,0%d')]:
+        yield Case('splits: rows that end in ' + name, four_sets(), split_sheet(ending, shape), b'%d' % SPLIT_ROWS)
 
 
 def long_cases(good):
@@ -314,6 +338,8 @@ def compare_all(reference, generate, seed, count, tally):
     others = list(generated_sheets(generate, seed, count // 6, good)) + list(generated_stations(generate, seed, count // 6, good))
     for at, (case, wanted) in enumerate(answered(reference, others)):
         tally.hold(case, wanted, at % 10 == 0)
+    for case, wanted in answered(reference, list(split_cases())):
+        tally.hold(case, wanted, False)
     for case, by_small in long_cases(good):
         for case, wanted in answered(reference, [case]):
             tally.hold(case, wanted, by_small)

@@ -1,17 +1,16 @@
 -- The seconds that a chunk tells, one after the other into three slices. Assumes nothing.
 use Prim.Native.Nat.{ℕ, zero, suc, _+_, _-_, _≤_, _<_, min}
 use mathlib.Core.Path.{_≡_, refl, sym, ap, subst, _∙_}
-use mathlib.Core.Bool.{Bool, true, false}
+use mathlib.Core.Bool.{true, false}
 use mathlib.Core.List.{List, [], _∷_, _++_, append-assoc}
 use native.Mathlib.Omega.{arith}
 use native.Mathlib.Numerals.{add-one}
 use native.Mathlib.Decide.{decLt}
-use lib.ListN.{length, drop, set, length-set, drop-of-length-le}
+use lib.ListN.{length, drop, set, length-set}
 use lib.Seq.{drop-set-lt, drop-drop, drop-length}
 use Rattle.rules.specs.declared.samples.Sample.{Sample}
 use Rattle.rules.specs.declared.run.Inputs.{Inputs}
 use Rattle.rules.specs.Answers.{isAccepted}
-use Rattle.rules.specs.SampleFile.{holding}
 use Rattle.rules.specs.Run.{inputsOf}
 use Rattle.rules.proofs.Tests.{never}
 use Rattle.samples.specs.declared.reader.SampleReader.{SampleReader}
@@ -24,7 +23,8 @@ use Rattle.samples.specs.ToCome.{RowsRead}
 use Rattle.samples.specs.Streamed.{yetToCome}
 use Rattle.samples.specs.Held.{rowsAhead, readerAt, sourceRows, sourceRefused, isRefusal, heldFrom, latest, inputsIn, AtSecond, ReachedRight, HeldOn, placesOf, KeptFrom, FilledRight, Filling}
 use Rattle.samples.proofs.LineLaws.{drop-least}
-use Rattle.samples.proofs.HeldLaws.{latest-none, latest-of, held-next, nothing-left, for-good, no-refusal}
+use Rattle.samples.proofs.HeldLaws.{latest-none, latest-of, held-next}
+use Rattle.samples.proofs.EndLaws.{nothing-left, for-good, no-refusal}
 
 -- ---- the slices
 

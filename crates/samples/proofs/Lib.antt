@@ -9,6 +9,7 @@ pub mod CheckLaws
 pub mod ChunkLaws
 pub mod Chunks
 pub mod HeldLaws
+pub mod EndLaws
 pub mod FillLaws
 pub mod UsualRows
 pub mod UsualSeconds

@@ -1,7 +1,7 @@
 -- The rows of the lines up to the first refused one: one line after the other, and that they are the paper's. Assumes nothing.
 use Prim.Native.Nat.{ℕ, suc}
 use mathlib.Core.Path.{_≡_, refl, sym, ap, _∙_}
-use mathlib.Core.Bool.{Bool, true, false}
+use mathlib.Core.Bool.{true}
 use mathlib.Core.List.{List, [], _∷_}
 use native.Mathlib.Omega.{arith}
 use lib.ListN.{length}
@@ -10,9 +10,8 @@ use Rattle.rules.specs.Answers.{Answer, accepted, refused, isAccepted, judged, 
 use Rattle.rules.specs.Lines.{Line}
 use Rattle.rules.proofs.Tests.{never}
 use Rattle.rules.proofs.Checks.{not-accepted, same-value}
-use Rattle.samples.specs.declared.stage.Stage.{Stage}
 use Rattle.samples.specs.declared.stage.Found.{Found}
-use Rattle.samples.specs.ToCome.{answerFrom, rowBefore, RowsRead, orElse, longest, upToRefused, toCome, rowFirst, answerOf, allRead}
+use Rattle.samples.specs.ToCome.{rowBefore, RowsRead, orElse, longest, upToRefused, rowFirst, answerOf, allRead}
 use Rattle.samples.specs.Streamed.{isRow}
 
 abbrev Answers : Type 0

@@ -2,7 +2,7 @@
 use Prim.Native.Nat.{ℕ, suc, min, _+_, _≤_, _<_}
 use mathlib.Core.Path.{_≡_, refl, sym, ap, subst, _∙_}
 use mathlib.Core.Bool.{true}
-use mathlib.Core.List.{List, [], _∷_, _++_}
+use mathlib.Core.List.{List, _∷_, _++_}
 use native.Mathlib.Omega.{arith}
 use lib.ListN.{length, drop, set, length-set}
 use lib.Seq.{drop-drop}
@@ -19,7 +19,7 @@ use Rattle.samples.specs.declared.usual_seconds.Told.{Told}
 use Rattle.samples.specs.declared.stage.Found.{Found}
 use Rattle.samples.specs.ToCome.{mostPlace, RowsRead, rowFirst}
 use Rattle.samples.specs.Streamed.{yetToCome, UsualLater}
-use Rattle.samples.specs.Held.{readerAt, sourceRows, heldFrom, inputsIn, ReachedRight, HeldOn, placesOf, toldAt, filledAt, Filling, GoesOn}
+use Rattle.samples.specs.Held.{readerAt, sourceRows, inputsIn, ReachedRight, HeldOn, placesOf, toldAt, filledAt, Filling, GoesOn}
 use Rattle.samples.proofs.HeldLaws.{latest-of, in-force, before-next, onward-same}
 use Rattle.samples.proofs.FillLaws.{filling-more}
 use Rattle.samples.proofs.UsualNext.{usual-on}

@@ -11,7 +11,7 @@ use Rattle.rules.specs.declared.samples.Sample.{Sample}
 use Rattle.rules.specs.declared.run.Inputs.{Inputs}
 use Rattle.rules.specs.Numbers.{if_then_else_}
 use Rattle.rules.specs.Bytes.{LF}
-use Rattle.rules.specs.Answers.{Answer, accepted, isAccepted, refusalOf}
+use Rattle.rules.specs.Answers.{accepted, isAccepted, refusalOf}
 use Rattle.rules.specs.SampleFile.{holding}
 use Rattle.rules.specs.Run.{inputsOf}
 use Rattle.sheet.specs.declared.headings.Columns.{Columns}

@@ -1,8 +1,8 @@
 // What each second of a run is handed, of a sample file that comes in chunks of any length: "A row holds until the next."
 ghost use mathlib.Core.Path.{_≡_};
-ghost use Prim.Native.Nat.{ℕ, _≤_, min};
+ghost use Prim.Native.Nat.{ℕ, _≤_};
 ghost use mathlib.Core.Bool.{true, false};
-ghost use mathlib.Core.List.{List, []};
+ghost use mathlib.Core.List.{List};
 ghost use lib.ListN.{length};
 ghost use Rattle.rules.specs.SampleFile.{beforeAll};
 ghost use Rattle.samples.specs.ToCome.{fileRows};

@@ -1,5 +1,5 @@
 -- A turn of some seconds: its rows stand in the buffer, and the inputs still to come are those that the sample file gives. Assumes nothing.
-use Prim.Native.Nat.{ℕ, zero, suc, _+_, _-_, _*_, _≤_, _<_, min}
+use Prim.Native.Nat.{ℕ, _+_, _-_, _*_, _≤_, _<_}
 use mathlib.Core.Path.{_≡_, refl, sym, ap, _∙_, subst}
 use mathlib.Core.Bool.{Bool, true, false}
 use mathlib.Core.List.{List, [], _∷_, _++_, append-nil, append-assoc}
@@ -11,21 +11,20 @@ use Rattle.rules.specs.declared.run.Inputs.{Inputs}
 use Rattle.rules.specs.declared.run.Run.{Run}
 use Rattle.rules.specs.declared.samples.Sample.{Sample}
 use Rattle.rules.specs.Answers.{Answer, accepted, refused, isAccepted}
-use Rattle.rules.specs.RunRecord.{possible}
 use Rattle.samples.specs.declared.inputs.InputSource.{InputSource}
 use Rattle.samples.specs.declared.inputs.Filled.{Filled}
 use Rattle.samples.specs.ToCome.{RowsRead, allRead}
 use Rattle.samples.specs.Held.{sourceRows, sourceEnded, heldFrom, inputsIn, placesOf, HeldOn, FilledRight, atEndOf, EndedRight}
 use Rattle.samples.proofs.UpToRefused.{all-read}
-use Rattle.samples.proofs.HeldLaws.{source-accepted}
+use Rattle.samples.proofs.EndLaws.{source-accepted}
 use Rattle.dispatch.specs.Seconds.{Calls, callsOf, inputsOf}
 use Rattle.simulation.specs.declared.state.Phase.{Phase}
 use Rattle.simulation.specs.declared.state.Simulation.{Simulation}
 use Rattle.simulation.specs.declared.state.Turn.{Turn}
 use Rattle.simulation.specs.declared.state.Wants.{Wants}
-use Rattle.simulation.specs.Rows.{rowTexts, runAfter, rowsWith, AllRight}
-use Rattle.simulation.specs.Text.{textOf, toPrint, withPhase, withSource, withWorked}
-use Rattle.simulation.specs.Turns.{Ready, inputsAll, Coming, ComesIn, Comes, ComesOn, rank, unended, weight, Moved, phaseFor, withSeconds, callsIn, SecondsMoved, NoInputs, waitingFor, putAt}
+use Rattle.simulation.specs.Rows.{rowsWith, AllRight}
+use Rattle.simulation.specs.Text.{textOf, toPrint, withPhase, withSource}
+use Rattle.simulation.specs.Turns.{inputsAll, Coming, ComesIn, Comes, ComesOn, rank, unended, weight, Moved, phaseFor, withSeconds, callsIn, SecondsMoved, NoInputs, waitingFor, putAt}
 use Rattle.simulation.proofs.Worked.{Some, all-worked, All}
 use Rattle.simulation.proofs.SecondsLaws.{noCalls, calls-some, calls-few}
 use Rattle.simulation.proofs.InputsRight.{held-right, first-right, drop-right, inputs-in, first-places}

@@ -1,7 +1,7 @@
 -- Document 01, what a run begins with: "station first", then the samples; the seconds asked "after the files".
-use Prim.Native.Nat.{ℕ, _≤_}
+use Prim.Native.Nat.{ℕ}
 use mathlib.Core.Path.{_≡_}
-use mathlib.Core.List.{List, []}
+use mathlib.Core.List.{List}
 use Rattle.rules.specs.declared.answers.Refusal.{Refusal}
 use Rattle.rules.specs.declared.station.Station.{Station}
 use Rattle.rules.specs.Answers.{Answer, accepted, refused, numberAndPlace, valueOr}

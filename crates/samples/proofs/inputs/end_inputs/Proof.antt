@@ -1,6 +1,6 @@
 -- `samples::inputs::end_inputs` meets its contract. Assumes nothing.
 use borrow.Author.Needs.{needs}
-use Rattle.samples.proofs.HeldLaws.{ended-right}
+use Rattle.samples.proofs.EndLaws.{ended-right}
 use borrow.Author.Needs.{needs}
 use Rattle.samples.proofs.inputs.end_inputs.Statement.{statement}
 use Rattle.samples.proofs.inputs.end_inputs.Tie as tie
