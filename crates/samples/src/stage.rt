@@ -76,10 +76,9 @@ fn after_first(columns: Columns, row: RowRead) -> Turn
                     found: Found::Row(sample),
                 };
             }
-            Turn {
-                stage: Stage::Refused(Refusal::FirstTime(2)),
-                found: Found::Nothing,
-            }
+            let stage = Stage::Refused(Refusal::FirstTime(2));
+            let found = Found::Nothing;
+            Turn { stage, found }
         }
     }
 }

@@ -17,7 +17,9 @@ source-refused-requires c κs = search needs
 
 -- src/inputs.rt:304:9
 returns : tie.Need-returns
-returns c = filled-none (c .before .before .before .before .before .before .args .source) (c .before .before .before .before .before .before .args .second) (c .before .before .before .before .before .before .args .chunk .now) (c .before .before .before .before .before .before .args .at) (c .before .before .before .before .before .before .args .loads .now) (c .before .before .before .before .before .before .args .solars .now) (c .before .before .before .before .before .before .args .sheddables .now) (sym (c .before .source-refused .ensures) ∙ c .if1 .taken)
+returns c =
+    let a = c .before .before .before .before .before .before .args in
+    filled-none (a .source) (a .second) (a .chunk .now) (a .at) (a .loads .now) (a .solars .now) (a .sheddables .now) (sym (c .before .source-refused .ensures) ∙ c .if1 .taken)
 
 -- src/inputs.rt:310:9
 wide-requires : tie.Need-wide-requires
