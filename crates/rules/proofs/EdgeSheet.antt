@@ -78,7 +78,7 @@ lineEdges =
     ∷ (file "t,LoadP,PvAvailP,ShedLoadP\r\n0,3,2,1\r\n1,6,5,4\r\n" shows 0 ∷ 3000 ∷ 2000 ∷ 1000 ∷ 1 ∷ 6000 ∷ 5000 ∷ 4000 ∷ [])
     ∷ (rows "0,3,2,1\r\r\n" shows refuses 18 2)
     ∷ (rows "0,3\r,2,1\n" shows refuses 18 2)
-    ∷ (rows "0,3,2,1\x0c\n" shows refuses 18 2)
+    ∷ (rows "0,3,2,1\u{c}\n" shows refuses 18 2)
     -- "or at the end of the file", where a CR is no CR before LF
     ∷ (rows "0,3,2,1" shows 0 ∷ 3000 ∷ 2000 ∷ 1000 ∷ [])
     ∷ (rows "0,3,2,1\r" shows refuses 18 2)
