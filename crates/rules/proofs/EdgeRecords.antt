@@ -33,6 +33,11 @@ given cases = map (λ (c : Case). c .gives) cases
 abbrev pub said : List Case → List (List ℕ)
 said cases = map (λ (c : Case). c .shows) cases
 
+-- lists one after the other
+abbrev pub joined : List (List ℕ) → List ℕ
+joined [] = []
+joined (xs ∷ xss) = xs ++ joined xss
+
 -- ---- a station of its numbers: nine of the control, five of the battery, sixteen of each set, and the masks
 
 abbrev pub stationWith : List ℕ → List ℕ → List (List ℕ) → List ℕ → Station
