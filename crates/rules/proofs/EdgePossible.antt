@@ -244,12 +244,12 @@ abbrev startEdges : List Case
 startEdges =
     -- "store at its start value", "configuration 0, all counts 0", "there is no held setpoint"
     (startRecord station .done ∷ startRecord station .since ∷ startRecord station .called ∷ startRecord station .store ∷ heldNumbers (startRecord station .setpoint)
-      shows 0 ∷ 0 ∷ 0 ∷ 1000000 ∷ 0 ∷ [])
+    shows 0 ∷ 0 ∷ 0 ∷ 1000000 ∷ 0 ∷ [])
     ∷ (totalNumbers (startRecord station .totals) shows replicate 9 0)
     ∷ (startRecord station .decided shows replicate 60 0)
     -- "named sets On, others Off": the mask is 2
     ∷ (joined (map stateNumbers (take 3 (startRecord station .sets)))
-      shows replicate 8 0 ++ (2 ∷ replicate 7 0) ++ replicate 8 0)
+    shows replicate 8 0 ++ (2 ∷ replicate 7 0) ++ replicate 8 0)
     ∷ (joined (map stateNumbers (startRecord eight .sets)) shows (2 ∷ replicate 55 0) ++ (2 ∷ replicate 7 0))
     -- the start refuses a station record that no file gives
     ∷ (refusal (start station) shows accepts)

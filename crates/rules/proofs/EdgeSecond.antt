@@ -85,7 +85,7 @@ shortCases =
     (columns (step station short shortIn .row) shows 10 ∷ 95000 ∷ 5000 ∷ 10002 ∷ 0 ∷ 0 ∷ 10000 ∷ 60000 ∷ 9998 ∷ 2 ∷ 1 ∷ 2 ∷ 100 ∷ [])
     ∷ (firstNumbers (step station short shortIn .run) shows 11 ∷ 10 ∷ 2 ∷ 100 ∷ [])
     ∷ (joined (map stateNumbers (take 3 (step station short shortIn .run .sets)))
-      shows (1 ∷ 2 ∷ 5 ∷ 4 ∷ 4 ∷ 2 ∷ 1000 ∷ 2000 ∷ []) ++ (2 ∷ 0 ∷ 8 ∷ 7 ∷ 2 ∷ 1 ∷ 63000 ∷ 20500 ∷ []) ++ replicate 8 0)
+    shows (1 ∷ 2 ∷ 5 ∷ 4 ∷ 4 ∷ 2 ∷ 1000 ∷ 2000 ∷ []) ++ (2 ∷ 0 ∷ 8 ∷ 7 ∷ 2 ∷ 1 ∷ 63000 ∷ 20500 ∷ []) ++ replicate 8 0)
     ∷ (step station short shortIn .run .decided shows 6000 ∷ 8000 ∷ replicate 58 0)
     ∷ (totalNumbers (step station short shortIn .run .totals) shows 10013 ∷ 95012 ∷ 5013 ∷ 10016 ∷ 15 ∷ 16 ∷ 10017 ∷ 60018 ∷ 10017 ∷ [])
     ∷ []
@@ -107,12 +107,12 @@ sunnyCases =
     (columns (step station sunny sunnyIn .row) shows 10 ∷ 70000 ∷ 0 ∷ 6000 ∷ 111 ∷ 33889 ∷ 0 ∷ 64000 ∷ 0 ∷ 3 ∷ 2 ∷ 1 ∷ 8999990 ∷ [])
     ∷ (firstNumbers (step station sunny sunnyIn .run) shows 11 ∷ 10 ∷ 1 ∷ 8999990 ∷ [])
     ∷ (joined (map stateNumbers (take 3 (step station sunny sunnyIn .run .sets)))
-      shows (3 ∷ 3 ∷ 6 ∷ 50 ∷ 3 ∷ 3 ∷ 41000 ∷ 14000 ∷ []) ++ (2 ∷ 0 ∷ 8 ∷ 7 ∷ 2 ∷ 1 ∷ 27000 ∷ 11500 ∷ []) ++ replicate 8 0)
+    shows (3 ∷ 3 ∷ 6 ∷ 50 ∷ 3 ∷ 3 ∷ 41000 ∷ 14000 ∷ []) ++ (2 ∷ 0 ∷ 8 ∷ 7 ∷ 2 ∷ 1 ∷ 27000 ∷ 11500 ∷ []) ++ replicate 8 0)
     ∷ (step station sunny sunnyIn .run .decided shows replicate 60 0)
     ∷ (totalNumbers (step station sunny sunnyIn .run .totals) shows 40011 ∷ 70012 ∷ 13 ∷ 6014 ∷ 126 ∷ 33905 ∷ 17 ∷ 64018 ∷ 19 ∷ [])
     -- with a service interval one second longer set 1 is not due: 3 is kept, called one second ago, and its since-second stays
     ∷ (firstNumbers (step (stationWith control battery (set sets 0 (100000 ∷ 2 ∷ 3 ∷ 51 ∷ 7 ∷ 2 ∷ 0 ∷ 2000 ∷ 1000 ∷ 27000 ∷ [])) (2 ∷ 1 ∷ 3 ∷ [])) sunny sunnyIn .run)
-      shows 11 ∷ 9 ∷ 3 ∷ 8999990 ∷ [])
+    shows 11 ∷ 9 ∷ 3 ∷ 8999990 ∷ [])
     ∷ []
 
 -- ---- the call
