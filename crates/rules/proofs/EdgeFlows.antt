@@ -19,7 +19,8 @@ wattNumbers w = w .offered ∷ w .load ∷ w .shed ∷ w .solar ∷ w .charge �
 
 -- with 40,000 W on line and a floor load of 16,000 W
 abbrev watts : ℕ → ℕ → ℕ → ℕ → ℕ → List ℕ
-watts store decided load solar sheddable = wattNumbers (wattsFor battery store 40000 16000 decided (record { load = load; solar = solar; sheddable = sheddable }))
+watts store decided load solar sheddable =
+    wattNumbers (wattsFor battery store 40000 16000 decided (record { load = load; solar = solar; sheddable = sheddable }))
 
 abbrev decides : ℕ → ℕ → ℕ → ℕ → ℕ → ℕ
 decides percentage cap load solar sheddable = shedDecided (controlOf (0 ∷ 0 ∷ 0 ∷ percentage ∷ [])) cap load solar sheddable

@@ -1,4 +1,4 @@
--- Document 01, "One second", two whole seconds worked by hand, with the row, the record and the buffer that each leaves; and the refusals of a
+-- Document 01, "One second", three whole seconds worked by hand, with the row, the record and the buffer that each leaves; and the refusals of a
 -- second at both sides of each limit, in their order. By computation. Assumes nothing.
 use Prim.Native.Nat.{ℕ}
 use mathlib.Core.Path.{_≡_, refl}
@@ -97,6 +97,9 @@ sunny =
     runWith (10 ∷ 9 ∷ 3 ∷ 8990000 ∷ []) Absent
     (stateWith (Warming 1) (5 ∷ 49 ∷ 3 ∷ 2 ∷ 1000 ∷ 2000 ∷ []) ∷ stateWith On (7 ∷ 6 ∷ 2 ∷ 1 ∷ 3000 ∷ 4000 ∷ []) ∷ []) [] totals
 
+abbrev later : Station
+later = stationWith control battery (set sets 0 (100000 ∷ 2 ∷ 3 ∷ 51 ∷ 7 ∷ 2 ∷ 0 ∷ 2000 ∷ 1000 ∷ 27000 ∷ [])) (2 ∷ 1 ∷ 3 ∷ [])
+
 abbrev sunnyIn : Inputs
 sunnyIn = inputs 70000 40000 5000
 
@@ -110,9 +113,35 @@ sunnyCases =
     shows (3 ∷ 3 ∷ 6 ∷ 50 ∷ 3 ∷ 3 ∷ 41000 ∷ 14000 ∷ []) ++ (2 ∷ 0 ∷ 8 ∷ 7 ∷ 2 ∷ 1 ∷ 27000 ∷ 11500 ∷ []) ++ replicate 8 0)
     ∷ (step station sunny sunnyIn .run .decided shows replicate 60 0)
     ∷ (totalNumbers (step station sunny sunnyIn .run .totals) shows 40011 ∷ 70012 ∷ 13 ∷ 6014 ∷ 126 ∷ 33905 ∷ 17 ∷ 64018 ∷ 19 ∷ [])
-    -- with a service interval one second longer set 1 is not due: 3 is kept, called one second ago, and its since-second stays
+    -- with a service interval of 51 s set 1 is not due: 3 is kept, called one second ago, and its since-second stays
     ∷ (firstNumbers (step (stationWith control battery (set sets 0 (100000 ∷ 2 ∷ 3 ∷ 51 ∷ 7 ∷ 2 ∷ 0 ∷ 2000 ∷ 1000 ∷ 27000 ∷ [])) (2 ∷ 1 ∷ 3 ∷ [])) sunny sunnyIn .run)
     shows 11 ∷ 9 ∷ 3 ∷ 8999990 ∷ [])
+    ∷ []
+
+-- ---- a second with solar over and load to shed: set 1 On, and set 2, of the called configuration 1, Off; shed 30 %, maintain 1
+
+abbrev bright : Station
+bright = stationWith (10000 ∷ 50 ∷ 40 ∷ 30 ∷ 2 ∷ 500 ∷ 3 ∷ 1 ∷ 2 ∷ []) battery sets (2 ∷ 1 ∷ 3 ∷ [])
+
+abbrev shedding : Run
+shedding =
+    runWith (20 ∷ 18 ∷ 1 ∷ 1000000 ∷ []) (At (float 60000))
+    (stateWith On (5 ∷ 4 ∷ 3 ∷ 2 ∷ 1000 ∷ 2000 ∷ []) ∷ stateWith Off (7 ∷ 6 ∷ 2 ∷ 1 ∷ 3000 ∷ 4000 ∷ []) ∷ []) (15000 ∷ 7000 ∷ []) totals
+
+abbrev sheddingIn : Inputs
+sheddingIn = inputs 120000 100000 50000
+
+-- cap 100,000, floor 40,000, off 15,000, D 105,000, solar 65,000, R 40,000, surplus 35,000; decided min(50,000, 25,000); coverage 32,500, live 35,000,
+-- reserve 10,000, wanted 50,000, held 55,000, which the called one covers
+abbrev sheddingCases : List Case
+sheddingCases =
+    (columns (step bright shedding sheddingIn .row) shows 20 ∷ 120000 ∷ 15000 ∷ 65000 ∷ 20000 ∷ 15000 ∷ 0 ∷ 40000 ∷ 0 ∷ 1 ∷ 1 ∷ 1 ∷ 2800000 ∷ [])
+    ∷ (firstNumbers (step bright shedding sheddingIn .run) shows 21 ∷ 18 ∷ 1 ∷ 2800000 ∷ [])
+    ∷ (joined (map stateNumbers (take 3 (step bright shedding sheddingIn .run .sets)))
+    shows (2 ∷ 0 ∷ 6 ∷ 5 ∷ 3 ∷ 2 ∷ 41000 ∷ 14000 ∷ []) ++ (1 ∷ 1 ∷ 7 ∷ 6 ∷ 3 ∷ 1 ∷ 3000 ∷ 4000 ∷ []) ++ replicate 8 0)
+    ∷ (step bright shedding sheddingIn .run .decided shows 7000 ∷ 25000 ∷ replicate 58 0)
+    ∷ (totalNumbers (step bright shedding sheddingIn .run .totals)
+    shows 100011 ∷ 120012 ∷ 15013 ∷ 65014 ∷ 20015 ∷ 15016 ∷ 17 ∷ 40018 ∷ 19 ∷ [])
     ∷ []
 
 -- ---- the call
@@ -157,7 +186,8 @@ callCases =
     ∷ (asked short (inputs 7 0 8) 0 shows refuses 20 0)
     -- "a second answers the row's length, LF counted, and bytes past the row stay"
     ∷ (answered (second station short shortIn 300) shows 51 ∷ [])
-    ∷ (bufferLeft (replicate 300 7) (second station short shortIn 300) shows bytes "10,95000,5000,10002,0,0,10000,60000,9998,2,1,2,100\n" ++ replicate 249 7)
+    ∷ (bufferLeft (replicate 300 7) (second station short shortIn 300)
+    shows bytes "10,95000,5000,10002,0,0,10000,60000,9998,2,1,2,100\n" ++ replicate 249 7)
     ∷ (firstNumbers (recordHanded short (second station short shortIn 300)) shows 11 ∷ 10 ∷ 2 ∷ 100 ∷ [])
     -- "A refused call hands the run's record back unchanged and writes nothing to a lent buffer."
     ∷ (answered (second station short shortIn 255) shows refuses 26 0)
@@ -166,13 +196,16 @@ callCases =
     ∷ []
 
 abbrev secondCases : List Case
-secondCases = shortCases ++ sunnyCases ++ callCases
+secondCases = shortCases ++ sunnyCases ++ sheddingCases ++ callCases
 
 pub second-edges : given secondCases ≡ said secondCases
 unfolding Numbers.every Bytes.bytes Bytes.digitsIn Bytes.decimal Bytes.commaLine StationRecord.controlRight StationRecord.batteryRight StationRecord.setRight StationRecord.pairsRight StationRecord.setsRight StationRecord.configurationsRight StationRecord.valuesRight StationRecord.someFileGives RunRecord.statePossible RunRecord.statesPossible RunRecord.decidedPossible RunRecord.possible Row.rowText Second.admitted Second.second Numbers.sumTo Numbers.allTo Numbers.tab Numbers.maskOf StationRecord.pastEnd StationRecord.setAt Share.runningTotal Share.capacity Share.share Fuel.exactLine Fuel.lowerOf Fuel.lowerPoint Fuel.exactFrom Fuel.fuelRate Modes.stateAt Modes.due Modes.tickFrom Modes.tick Modes.ticked Modes.onMask Flows.floorLoad Flows.shedNow Flows.solarOnLoad Flows.batteryGives Flows.batteryTakes Flows.storeAfter Flows.dieselFor Flows.wattsWith Flows.wattsFor Flows.shedDecided Flows.decidedAfter Setpoint.coverageOf Setpoint.reserve Setpoint.wantedFor Setpoint.float Setpoint.thousandths Setpoint.filterOf Setpoint.filtered Setpoint.heldAfter Setpoint.covers Configuration.maskCalled Configuration.usable Configuration.usableCovering Configuration.firstCovering Configuration.greatestUsable Configuration.chosen Commands.counted Commands.countedAll Commands.commandFrom Commands.command Commands.everyOn Commands.commandedAll Second.statesNow Second.onNow Second.capNow Second.floorNow Second.wattsNow Second.storeNow Second.decidedNow Second.ranNow Second.heldNow Second.callNow Second.commandedNow Second.recordAfter Second.rowAfter Second.step Ieee.span Ieee.climb Ieee.size Ieee.odd Ieee.units Ieee.round Ieee.sum Ieee.add Ieee.mul Ieee.div Ieee.lt Ieee.eq Ieee.le Ieee.ofInt Count.ones Count.onesIn Count.trailingZeros
 second-edges = refl
 
 -- "held x (k/1000) + wanted x ((1000-k)/1000)"; "With none held, held becomes wanted"
-pub held-left : _≡_ {A = List Held} (step station short shortIn .run .setpoint ∷ step station sunny sunnyIn .run .setpoint ∷ []) (At (float 88499) ∷ At (float 69000) ∷ [])
+abbrev heldLeft : List Held
+heldLeft = step station short shortIn .run .setpoint ∷ step station sunny sunnyIn .run .setpoint ∷ step bright shedding sheddingIn .run .setpoint ∷ []
+
+pub held-left : heldLeft ≡ At (float 88499) ∷ At (float 69000) ∷ At (float 55000) ∷ []
 unfolding Numbers.sumTo Numbers.allTo Numbers.tab Numbers.maskOf StationRecord.pastEnd StationRecord.setAt Share.runningTotal Share.capacity Share.share Fuel.exactLine Fuel.lowerOf Fuel.lowerPoint Fuel.exactFrom Fuel.fuelRate Modes.stateAt Modes.due Modes.tickFrom Modes.tick Modes.ticked Modes.onMask Flows.floorLoad Flows.shedNow Flows.solarOnLoad Flows.batteryGives Flows.batteryTakes Flows.storeAfter Flows.dieselFor Flows.wattsWith Flows.wattsFor Flows.shedDecided Flows.decidedAfter Setpoint.coverageOf Setpoint.reserve Setpoint.wantedFor Setpoint.float Setpoint.thousandths Setpoint.filterOf Setpoint.filtered Setpoint.heldAfter Setpoint.covers Configuration.maskCalled Configuration.usable Configuration.usableCovering Configuration.firstCovering Configuration.greatestUsable Configuration.chosen Commands.counted Commands.countedAll Commands.commandFrom Commands.command Commands.everyOn Commands.commandedAll Second.statesNow Second.onNow Second.capNow Second.floorNow Second.wattsNow Second.storeNow Second.decidedNow Second.ranNow Second.heldNow Second.callNow Second.commandedNow Second.recordAfter Second.rowAfter Second.step Ieee.span Ieee.climb Ieee.size Ieee.odd Ieee.units Ieee.round Ieee.sum Ieee.add Ieee.mul Ieee.div Ieee.lt Ieee.eq Ieee.le Ieee.ofInt Count.ones Count.onesIn Count.trailingZeros
 held-left = refl
