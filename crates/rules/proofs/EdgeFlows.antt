@@ -6,7 +6,8 @@ use lib.ListN.{replicate}
 use Rattle.rules.specs.declared.station.Battery.{Battery}
 use Rattle.rules.specs.declared.run.Watts.{Watts}
 use Rattle.rules.specs.StationFile.{controlOf, batteryOf}
-use Rattle.rules.specs.Flows.{shedNow, solarOnLoad, batteryGives, batteryTakes, storeAfter, dieselFor, wattsWith, wattsFor, shedDecided, decidedAfter}
+use Rattle.rules.specs.Flows.{shedNow, solarOnLoad, batteryGives, batteryTakes, storeAfter}
+use Rattle.rules.specs.Flows.{dieselFor, wattsWith, wattsFor, shedDecided, decidedAfter}
 use Rattle.rules.specs.Cases.{Case, _shows_}
 use Rattle.rules.proofs.EdgeRecords.{_is_, given, said}
 

@@ -243,8 +243,9 @@ eight = stationWith (set control 8 129) battery (replicate 8 (getD sets 0 [])) (
 abbrev startEdges : List Case
 startEdges =
     -- "store at its start value", "configuration 0, all counts 0", "there is no held setpoint"
-    (startRecord station .done ∷ startRecord station .since ∷ startRecord station .called ∷ startRecord station .store ∷ heldNumbers (startRecord station .setpoint)
-    shows 0 ∷ 0 ∷ 0 ∷ 1000000 ∷ 0 ∷ [])
+    (startRecord station .done ∷ startRecord station .since ∷ startRecord station .called ∷ startRecord station .store ∷ []
+    shows 0 ∷ 0 ∷ 0 ∷ 1000000 ∷ [])
+    ∷ (heldNumbers (startRecord station .setpoint) shows 0 ∷ [])
     ∷ (totalNumbers (startRecord station .totals) shows replicate 9 0)
     ∷ (startRecord station .decided shows replicate 60 0)
     -- "named sets On, others Off": the mask is 2

@@ -5,7 +5,8 @@ use mathlib.Core.Path.{_≡_, refl}
 use mathlib.Core.List.{List, [], _∷_, map}
 use Rattle.rules.specs.declared.station.GenSet.{GenSet}
 use Rattle.rules.specs.StationFile.{setOf}
-use Rattle.rules.specs.Fuel.{exactLine, lowerOf, lowerPoint, exactFrom, fuelRate, stepsTo, otherSteps, curveScale, exactCurve, exactSum, fuelSum}
+use Rattle.rules.specs.Fuel.{exactLine, lowerOf, lowerPoint, exactFrom, fuelRate, fuelSum}
+use Rattle.rules.specs.Fuel.{stepsTo, otherSteps, curveScale, exactCurve, exactSum}
 use Rattle.rules.specs.Cases.{Case, _shows_}
 use Rattle.rules.proofs.EdgeRecords.{_is_, given, said}
 

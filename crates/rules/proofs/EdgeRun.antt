@@ -57,7 +57,8 @@ runEdges =
     ∷ (printed stationA samplesA (bytes "316224001") shows bytes "refused,23,0\n")
     -- no second asked: the headings, and a line for each set
     ∷ (printed stationA samplesA (bytes "0")
-    shows bytes "t,load,shed,solar,charge,spill,give,diesel,unserved,on,sets,call,store\nset,run,starts,stops,energy,fuel\n1,0,0,0,0,0\n2,0,0,0,0,0\n")
+    shows bytes "t,load,shed,solar,charge,spill,give,diesel,unserved,on,sets,call,store\n"
+    ++ bytes "set,run,starts,stops,energy,fuel\n1,0,0,0,0,0\n2,0,0,0,0,0\n")
     -- decimal numbers
     ∷ (decimal 0 shows bytes "0")
     ∷ (decimal 9 shows bytes "9")

@@ -114,8 +114,7 @@ sunnyCases =
     ∷ (step station sunny sunnyIn .run .decided shows replicate 60 0)
     ∷ (totalNumbers (step station sunny sunnyIn .run .totals) shows 40011 ∷ 70012 ∷ 13 ∷ 6014 ∷ 126 ∷ 33905 ∷ 17 ∷ 64018 ∷ 19 ∷ [])
     -- with a service interval of 51 s set 1 is not due: 3 is kept, called one second ago, and its since-second stays
-    ∷ (firstNumbers (step (stationWith control battery (set sets 0 (100000 ∷ 2 ∷ 3 ∷ 51 ∷ 7 ∷ 2 ∷ 0 ∷ 2000 ∷ 1000 ∷ 27000 ∷ [])) (2 ∷ 1 ∷ 3 ∷ [])) sunny sunnyIn .run)
-    shows 11 ∷ 9 ∷ 3 ∷ 8999990 ∷ [])
+    ∷ (firstNumbers (step later sunny sunnyIn .run) shows 11 ∷ 9 ∷ 3 ∷ 8999990 ∷ [])
     ∷ []
 
 -- ---- a second with solar over and load to shed: set 1 On, and set 2, of the called configuration 1, Off; shed 30 %, maintain 1
@@ -131,8 +130,8 @@ shedding =
 abbrev sheddingIn : Inputs
 sheddingIn = inputs 120000 100000 50000
 
--- cap 100,000, floor 40,000, off 15,000, D 105,000, solar 65,000, R 40,000, surplus 35,000; decided min(50,000, 25,000); coverage 32,500, live 35,000,
--- reserve 10,000, wanted 50,000, held 55,000, which the called one covers
+-- cap 100,000, floor 40,000, off 15,000, D 105,000, solar 65,000, R 40,000, surplus 35,000; decided min(50,000, 25,000); coverage 32,500,
+-- live 35,000, reserve 10,000, wanted 50,000, held 55,000, which the called one covers
 abbrev sheddingCases : List Case
 sheddingCases =
     (columns (step bright shedding sheddingIn .row) shows 20 ∷ 120000 ∷ 15000 ∷ 65000 ∷ 20000 ∷ 15000 ∷ 0 ∷ 40000 ∷ 0 ∷ 1 ∷ 1 ∷ 1 ∷ 2800000 ∷ [])
