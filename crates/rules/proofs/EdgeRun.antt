@@ -68,37 +68,44 @@ runEdges =
     ∷ (commaLine (12 ∷ 0 ∷ 345 ∷ []) shows bytes "12,0,345\n")
     ∷ []
 
--- ---- the sizing screen: sets of 100,000 and 60,000 W
+-- ---- the sizing screen: eight sets of 1 to 8 W, and station A's of 100,000 and 60,000 W
 
 abbrev eight : Station
 eight = stationWith [] [] (map (λ n. n ∷ 1 ∷ 1 ∷ 0 ∷ 0 ∷ 2 ∷ 0 ∷ 100 ∷ 1000 ∷ 900 ∷ []) (1 ∷ 2 ∷ 3 ∷ 4 ∷ 5 ∷ 6 ∷ 7 ∷ 8 ∷ [])) []
 
+abbrev two : Station
+two =
+    stationWith [] []
+    ((100000 ∷ 2 ∷ 1 ∷ 0 ∷ 0 ∷ 2 ∷ 0 ∷ 2000 ∷ 1000 ∷ 27000 ∷ []) ∷ (60000 ∷ 1 ∷ 1 ∷ 0 ∷ 0 ∷ 2 ∷ 0 ∷ 1500 ∷ 1000 ∷ 16500 ∷ []) ∷ []) []
+
 abbrev sizingEdges : List Case
 sizingEdges =
     -- "answers that set's watts, 0 if it is not in the mask"
-    (map (λ n. getD (shown (shareAsked stationA 3 25000 n)) 0 9) (0 ∷ 1 ∷ 2 ∷ 3 ∷ 9 ∷ []) shows 0 ∷ 15625 ∷ 9375 ∷ 0 ∷ 0 ∷ [])
-    ∷ (map (λ n. getD (shown (shareAsked stationA 2 25000 n)) 0 9) (0 ∷ 1 ∷ 2 ∷ 3 ∷ []) shows 0 ∷ 0 ∷ 25000 ∷ 0 ∷ [])
+    (map (λ n. getD (shown (shareOf two 3 25000 n)) 0 9) (0 ∷ 1 ∷ 2 ∷ 3 ∷ 9 ∷ []) shows 0 ∷ 15625 ∷ 9375 ∷ 0 ∷ 0 ∷ [])
+    ∷ (map (λ n. getD (shown (shareOf two 2 25000 n)) 0 9) (0 ∷ 1 ∷ 2 ∷ 3 ∷ []) shows 0 ∷ 0 ∷ 25000 ∷ 0 ∷ [])
     ∷ (map (λ n. getD (shown (shareOf eight 255 36 n)) 0 9) (1 ∷ 7 ∷ 8 ∷ 9 ∷ []) shows 1 ∷ 7 ∷ 8 ∷ 0 ∷ [])
     -- "8 for such a mask wrong", that is zero or of a set that does not exist
-    ∷ (shown (shareAsked stationA 0 0 1) shows refuses 8 0)
-    ∷ (shown (shareAsked stationA 4 0 1) shows refuses 8 0)
+    ∷ (shown (shareOf two 0 0 1) shows refuses 8 0)
+    ∷ (shown (shareOf two 4 0 1) shows refuses 8 0)
     ∷ (shown (shareOf eight 256 0 1) shows refuses 8 0)
     -- "19 for power above its capacity"
-    ∷ (shown (shareAsked stationA 3 160000 2) shows 60000 ∷ [])
-    ∷ (shown (shareAsked stationA 3 160001 2) shows refuses 19 0)
-    ∷ (shown (shareAsked stationA 1 100001 1) shows refuses 19 0)
+    ∷ (shown (shareOf two 3 160000 2) shows 60000 ∷ [])
+    ∷ (shown (shareOf two 3 160001 2) shows refuses 19 0)
+    ∷ (shown (shareOf two 1 100001 1) shows refuses 19 0)
     -- "Both answer the station's refusal, then 8 .., then 19"
-    ∷ (shown (shareAsked (take 164 stationA) 0 200000 1) shows refuses 1 0)
-    ∷ (shown (shareAsked stationA 4 200000 1) shows refuses 8 0)
-    ∷ (shown (rateAsked (take 164 stationA) 0 200000) shows refuses 1 0)
-    ∷ (shown (rateAsked stationA 4 200000) shows refuses 8 0)
-    -- "fuel rate takes the first three, with a mask of one set"
+    ∷ (shown (shareAsked stationA 3 25000 1) shows 15625 ∷ [])
     ∷ (shown (rateAsked stationA 1 15625) shows 5906 ∷ [])
-    ∷ (shown (rateAsked stationA 2 60000) shows 16500 ∷ [])
-    ∷ (shown (rateAsked stationA 2 60001) shows refuses 19 0)
-    ∷ (shown (rateAsked stationA 0 0) shows refuses 8 0)
-    ∷ (shown (rateAsked stationA 3 0) shows refuses 8 0)
-    ∷ (shown (rateAsked stationA 4 0) shows refuses 8 0)
+    ∷ (shown (shareAsked (take 164 stationA) 0 200000 1) shows refuses 1 0)
+    ∷ (shown (shareOf two 4 200000 1) shows refuses 8 0)
+    ∷ (shown (rateAsked (take 164 stationA) 0 200000) shows refuses 1 0)
+    ∷ (shown (rateOf two 4 200000) shows refuses 8 0)
+    -- "fuel rate takes the first three, with a mask of one set"
+    ∷ (shown (rateOf two 1 15625) shows 5906 ∷ [])
+    ∷ (shown (rateOf two 2 60000) shows 16500 ∷ [])
+    ∷ (shown (rateOf two 2 60001) shows refuses 19 0)
+    ∷ (shown (rateOf two 0 0) shows refuses 8 0)
+    ∷ (shown (rateOf two 3 0) shows refuses 8 0)
+    ∷ (shown (rateOf two 4 0) shows refuses 8 0)
     ∷ (shown (rateOf eight 128 6) shows 700 ∷ [])
     ∷ (shown (rateOf eight 256 0) shows refuses 8 0)
     -- "file checks"
