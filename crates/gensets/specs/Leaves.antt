@@ -7,7 +7,7 @@ use mathlib.Core.Bool.{Bool, _&&_}
 use mathlib.Core.List.{List, [], _∷_}
 use lib.Dec.{leb, ltb}
 use Rattle.rules.specs.declared.station.GenSet.{GenSet}
-use Rattle.rules.specs.Numbers.{within, tab, all}
+use Rattle.rules.specs.Numbers.{within, tab, allHold}
 use Rattle.rules.specs.Answers.{Answer, accepted, need, _>>_}
 use Rattle.rules.specs.Share.{capacity, share}
 use Rattle.rules.specs.Fuel.{loadAt, rateAt, lowerPoint, fuelRate}
@@ -41,7 +41,7 @@ lineRules g j =
     ∷ []
 
 unfoldable pub lineRight : GenSet → ℕ → Bool
-lineRight g j = all (lineRules g j)
+lineRight g j = allHold (lineRules g j)
 
 -- up to twice the rating
 unfoldable pub rateOfSet : GenSet → ℕ → Answer ℕ

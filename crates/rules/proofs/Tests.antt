@@ -11,7 +11,7 @@ use lib.Dec.{leb}
 use lib.ListN.{length, getD, drop, drop-of-length-le}
 use lib.Seq.{drop-cons}
 use borrow.Author.Tests.{leb-true, le-leb}
-use Rattle.rules.specs.Numbers.{if_then_else_, within, allTo, allFrom, all, every}
+use Rattle.rules.specs.Numbers.{if_then_else_, within, allTo, allFrom, allHold, every}
 
 -- nothing is both true and false
 pub never : {A : Type 0} → false ≡ true → A
@@ -30,8 +30,8 @@ all-from : (b : Bool) (bs : List Bool) → allFrom b bs ≡ true → (b ≡ true
 all-from b [] h = (h, λ i. refl)
 all-from b (c ∷ cs) h = let t = all-from (b && c) cs h in let p = both b c (t .0) in (p .0, elim [ zero ↦ p .1 | suc i ↦ t .1 i ])
 
--- the test at a place, of `all` tests
-pub all-at : (bs : List Bool) (i : ℕ) → all bs ≡ true → getD bs i true ≡ true
+-- the test at a place, of `allHold` tests
+pub all-at : (bs : List Bool) (i : ℕ) → allHold bs ≡ true → getD bs i true ≡ true
 all-at bs i h = all-from true bs h .1 i
 
 -- a test of every place below n holds at each

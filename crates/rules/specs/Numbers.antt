@@ -43,13 +43,13 @@ unfoldable pub maskOf : ℕ → (ℕ → Bool) → ℕ
 maskOf zero p = 0
 maskOf (suc n) p = maskOf n p + (if p n then 2 ^ n else 0)
 
--- every test of a list holds: `all (a ∷ b ∷ c ∷ [])` computes to a && b && c
+-- every test of a list holds: `allHold (a ∷ b ∷ c ∷ [])` computes to a && b && c
 abbrev pub allFrom : Bool → List Bool → Bool
 allFrom b [] = b
 allFrom b (c ∷ cs) = allFrom (b && c) cs
 
-abbrev pub all : List Bool → Bool
-all bs = allFrom true bs
+abbrev pub allHold : List Bool → Bool
+allHold bs = allFrom true bs
 
 -- every element of a list passes a test
 unfoldable pub every : {A : Type 0} → (A → Bool) → List A → Bool

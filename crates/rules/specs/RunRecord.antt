@@ -12,7 +12,7 @@ use Rattle.rules.specs.declared.run.SetState.{SetState}
 use Rattle.rules.specs.declared.run.Held.the-variants.{Absent}
 use Rattle.rules.specs.declared.run.Totals.{Totals}
 use Rattle.rules.specs.declared.run.Run.{Run}
-use Rattle.rules.specs.Numbers.{if_then_else_, within, has, allTo, tab, all, allZero}
+use Rattle.rules.specs.Numbers.{if_then_else_, within, has, allTo, tab, allHold, allZero}
 use Rattle.rules.specs.Answers.{Answer, accepted, need, _>>_}
 use Rattle.rules.specs.StationRecord.{setAt, someFileGives}
 use Rattle.rules.specs.Modes.{fresh, stateAt, isOff}
@@ -70,7 +70,7 @@ countRules g s done =
     ∷ []
 
 abbrev pub countsPossible : GenSet → SetState → ℕ → Bool
-countsPossible g s done = all (countRules g s done)
+countsPossible g s done = allHold (countRules g s done)
 
 -- "all zero or Off beyond the existing sets"
 abbrev pub stateUnused : SetState → Bool
@@ -100,7 +100,7 @@ totalRules t most =
     ∷ []
 
 abbrev pub totalsPossible : Totals → ℕ → Bool
-totalsPossible t most = all (totalRules t most)
+totalsPossible t most = allHold (totalRules t most)
 
 -- "decided shed amounts <= 50,000,000; all zero .. beyond .. the delay"
 unfoldable pub decidedPossible : ℕ → List ℕ → Bool
@@ -119,4 +119,4 @@ recordRules st r =
     ∷ []
 
 unfoldable pub possible : Station → Run → Bool
-possible st r = all (recordRules st r)
+possible st r = allHold (recordRules st r)

@@ -9,7 +9,7 @@ use Rattle.rules.specs.declared.station.Control.{Control}
 use Rattle.rules.specs.declared.station.Battery.{Battery}
 use Rattle.rules.specs.declared.station.GenSet.{GenSet}
 use Rattle.rules.specs.declared.station.Station.{Station}
-use Rattle.rules.specs.Numbers.{if_then_else_, within, existingOnly, allTo, all, every, allZero}
+use Rattle.rules.specs.Numbers.{if_then_else_, within, existingOnly, allTo, allHold, every, allZero}
 use Rattle.rules.specs.Answers.{Answer, accepted, need, isAccepted, _>>_}
 
 -- what a list of sets has past its end
@@ -74,7 +74,7 @@ controlRules setcount c =
     ∷ []
 
 unfoldable pub controlRight : ℕ → Control → Bool
-controlRight setcount c = all (controlRules setcount c)
+controlRight setcount c = allHold (controlRules setcount c)
 
 -- 5: "least <= start <= most <= 10,000,000,000,000"
 abbrev pub batteryRules : Battery → List Bool
@@ -87,7 +87,7 @@ batteryRules b =
     ∷ []
 
 unfoldable pub batteryRight : Battery → Bool
-batteryRight b = all (batteryRules b)
+batteryRight b = allHold (batteryRules b)
 
 -- "service time s 1 to 2,592,000, but 0 where the interval is 0"
 abbrev pub serviceRight : ℕ → ℕ → Bool
@@ -105,7 +105,7 @@ setRules g =
     ∷ []
 
 unfoldable pub setRight : GenSet → Bool
-setRight g = all (setRules g)
+setRight g = allHold (setRules g)
 
 -- a used pair is in its range; "Unused pairs are zero"
 abbrev pub pairRight : ℕ → ℕ → ℕ → ℕ → Bool
@@ -165,7 +165,7 @@ unusedRules g =
     ∷ []
 
 abbrev pub setUnused : GenSet → Bool
-setUnused g = all (unusedRules g)
+setUnused g = allHold (unusedRules g)
 
 -- some file gives the record: its counts and values are in rule, and what is past the counts is zero
 -- (proofs/StationFile.antt shows it both ways, by a file that the reader takes back)
@@ -179,4 +179,4 @@ stationRules st =
     ∷ []
 
 unfoldable pub someFileGives : Station → Bool
-someFileGives st = all (stationRules st)
+someFileGives st = allHold (stationRules st)

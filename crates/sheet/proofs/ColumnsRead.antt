@@ -8,7 +8,7 @@ use native.Mathlib.Decide.{decLt}
 use lib.Dec.{eqb}
 use lib.ListN.{length, drop, getD}
 use borrow.Author.Tests.{eq-eqb, ne-eqb, not-true}
-use Rattle.rules.specs.Numbers.{if_then_else_, allTo, all}
+use Rattle.rules.specs.Numbers.{if_then_else_, allTo, allHold}
 use Rattle.rules.specs.Bytes.{same}
 use Rattle.rules.specs.Answers.{Answer, accepted, refused, need, _>>=_, _>>_}
 use Rattle.rules.specs.SampleFile.{sampleSheet, nameOf, occurs, headings}
@@ -69,7 +69,7 @@ turnTests c name =
     ∷ []
 
 unfoldable turnTest : Columns → ℕ → Bool
-turnTest c name = implies (right c) (all (turnTests c name))
+turnTest c name = implies (right c) (allHold (turnTests c name))
 
 abbrev allSeen : Columns → Bool
 allSeen c = allTo 4 (λ name. occurs name (seen c))
