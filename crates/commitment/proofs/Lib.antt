@@ -4,3 +4,4 @@ pub mod Floats
 pub mod Usable
 pub mod Choices
 pub mod Called
+pub mod Ruled

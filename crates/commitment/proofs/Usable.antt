@@ -18,6 +18,7 @@ use Rattle.rules.specs.Configuration.{usable}
 use Rattle.rules.proofs.Tables.{has-beyond}
 use Rattle.rules.proofs.Masks.{mask-below, mask-has}
 use Rattle.modes.specs.Barred.{barred, barredMask}
+use Rattle.commitment.specs.Choice.{usableOf}
 
 -- ---- bit by bit
 
@@ -84,8 +85,7 @@ none-shared n a b p h e =
     ∙ same-all n (λ i. not (has (bitAnd a b) i)) (λ i. not (has a i) || not (p i)) (λ i l.
     ap not (has-both a b i) ∙ not-both (has a i) (has b i) ∙ ap (λ (x : Bool). not (has a i) || not x) (e i l))
 
-pub usable-mask : (sets : List GenSet) (states : List SetState) (mask bars : ℕ) → bars ≡ barredMask sets states
-    → ltb 0 mask && eqb (bitAnd mask bars) 0 ≡ usable sets states mask
-unfolding usable barredMask barred
+pub usable-mask : (sets : List GenSet) (states : List SetState) (mask bars : ℕ) → bars ≡ barredMask sets states → usableOf bars mask ≡ usable sets states mask
+unfolding usableOf usable barredMask barred
 usable-mask sets states mask bars e =
     rw e (ap (λ (x : Bool). ltb 0 mask && x) (none-shared 8 mask (maskOf 8 (barred sets states)) (barred sets states) (mask-below 8 (barred sets states)) (mask-has (barred sets states) 8)))

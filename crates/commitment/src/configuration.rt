@@ -1,17 +1,14 @@
 // Step 10: the configuration called.
 ghost use mathlib.Core.Path.{_≡_};
-ghost use mathlib.Core.List.{List};
 ghost use Prim.Native.Nat.{_≤_, _<_, min};
-ghost use lib.ListN.{take};
+ghost use lib.ListN.{length, take};
 ghost use Rattle.rules.specs.Setpoint.{covers};
-ghost use Rattle.rules.specs.Configuration.{maskCalled, usable, usableCovering, firstCovering, greatestUsable, chosen, sinceAfter};
-ghost use Rattle.modes.specs.Barred.{barredMask};
+ghost use Rattle.rules.specs.Configuration.{maskCalled, sinceAfter};
 ghost use Rattle.rules.specs.Share.{capacity};
-ghost use Rattle.commitment.specs.Choice.{greater, capacities, Rated};
+ghost use Rattle.commitment.specs.Choice.{capacities, usableOf, usableCoveringOf, calledCovers, none, greater, firstCoveringOf, greatestUsableOf, chosenOf};
 use crate::setpoint::over;
 use gensets::share::capacity;
 use rules::limits::MOST_CONFIGURATIONS;
-use rules::run::SetState;
 use rules::station::GenSet;
 use rules::station::Station;
 
@@ -45,13 +42,13 @@ fn covers(held: f64, cap: u32) -> bool
 // Some set, and none that is barred: due or in Service. Which sets are so is the same for every configuration of a second, so their
 // mask is made once.
 fn usable(mask: u32, barred: u32) -> bool
-    ensures { λ r. ⌜ ((sets : List GenSet) (states : List SetState) → barred ≡ barredMask sets states → r ≡ usable sets states mask) ⌝ }
+    ensures { λ r. ⌜ r ≡ usableOf barred mask ⌝ }
 {
     (0 < mask) & (mask & barred == 0)
 }
 
 fn usable_covering(barred: u32, held: f64, mask: u32, cap: u32) -> bool
-    ensures { λ r. ⌜ ((sets : List GenSet) (states : List SetState) → barred ≡ barredMask sets states → cap ≡ capacity sets mask → r ≡ usableCovering sets states held mask) ⌝ }
+    ensures { λ r. ⌜ r ≡ usableCoveringOf barred held mask cap ⌝ }
 {
     usable(mask, barred) & covers(held, cap)
 }
@@ -92,8 +89,8 @@ fn first_covering(
     barred: u32,
     held: f64,
 ) -> usize
-    requires { ⌜ configcount ≤ 64 ⌝ }
-    ensures { λ r. ⌜ ((sets : List GenSet) (states : List SetState) → barred ≡ barredMask sets states → Rated sets (now (configs .entry)) (now (caps .entry)) → r ≡ firstCovering sets states held 0 (take configcount (now (configs .entry)))) ⌝ }
+    requires { ⌜ (length (now configs) ≡ 64) × (configcount ≤ 64) ⌝ }
+    ensures { λ r. ⌜ r ≡ firstCoveringOf (now (caps .entry)) barred held 0 (take configcount (now (configs .entry))) ⌝ }
 {
     let mut i: usize = 0;
     while i < configcount {
@@ -115,7 +112,7 @@ pub(crate) struct Greatest {
 
 // The greater of the greatest so far and the configuration of a number; of equals the one so far.
 fn greater(greatest: Greatest, barred: u32, mask: u32, cap: u32, number: usize) -> Greatest
-    ensures { λ r. ⌜ ((sets : List GenSet) (states : List SetState) → barred ≡ barredMask sets states → cap ≡ capacity sets mask → r ≡ greater sets states greatest mask number) ⌝ }
+    ensures { λ r. ⌜ r ≡ greater barred greatest mask cap number ⌝ }
 {
     if !usable(mask, barred) {
         return greatest;
@@ -131,8 +128,8 @@ fn greater(greatest: Greatest, barred: u32, mask: u32, cap: u32, number: usize) 
 
 // The number of the usable configuration of greatest capacity, the first of equals, or 0.
 fn greatest_usable(configs: &[u8; 64], caps: &[u32; 64], configcount: usize, barred: u32) -> usize
-    requires { ⌜ configcount ≤ 64 ⌝ }
-    ensures { λ r. ⌜ ((sets : List GenSet) (states : List SetState) → barred ≡ barredMask sets states → Rated sets (now (configs .entry)) (now (caps .entry)) → r ≡ greatestUsable sets states 0 0 0 (take configcount (now (configs .entry)))) ⌝ }
+    requires { ⌜ (length (now configs) ≡ 64) × (configcount ≤ 64) ⌝ }
+    ensures { λ r. ⌜ r ≡ greatestUsableOf (now (caps .entry)) barred none 0 (take configcount (now (configs .entry))) ⌝ }
 {
     let mut greatest = Greatest { number: 0, most: 0 };
     let mut i: usize = 0;
@@ -164,7 +161,8 @@ fn called_covers(
     held: f64,
     called: usize,
 ) -> bool
-    ensures { λ r. ⌜ ((sets : List GenSet) (states : List SetState) → barred ≡ barredMask sets states → Rated sets (now (configs .entry)) (now (caps .entry)) → r ≡ usableCovering sets states held (maskCalled (now (configs .entry)) called)) ⌝ }
+    requires { ⌜ length (now configs) ≡ 64 ⌝ }
+    ensures { λ r. ⌜ r ≡ calledCovers (now (configs .entry)) (now (caps .entry)) barred held called ⌝ }
 {
     if called == 0 {
         return false;
@@ -187,7 +185,7 @@ pub fn chosen(
     since: u32,
     second: u32,
 ) -> usize
-    ensures { λ r. ⌜ ((states : List SetState) → barred ≡ barredMask (st .sets) states → Rated (st .sets) (st .configs) (now (caps .entry)) → r ≡ chosen st states held called since second) ⌝ }
+    ensures { λ r. ⌜ r ≡ chosenOf st (now (caps .entry)) barred held called since second ⌝ }
 {
     let configs = st.configs;
     let recent = over(second as u64, since as u64) < st.control.minseconds as u64;

@@ -21,13 +21,15 @@ use Rattle.rules.specs.Modes.{stateAt, isOn, ticked, onMask}
 use Rattle.rules.specs.Flows.{wattsFor, storeAfter, restOf, shedDecided}
 use Rattle.rules.specs.Commands.{countedAll}
 use Rattle.rules.specs.Setpoint.{wantedFor, heldAfter}
-use Rattle.rules.specs.Configuration.{chosen, sinceAfter}
+use Rattle.rules.specs.Configuration.{sinceAfter}
 use Rattle.rules.specs.Second.{wattsNow, onNow, plus, step}
 use Rattle.rules.proofs.Shapes.{Tables}
 use Rattle.rules.proofs.StationFacts.{right-of, delay-range}
 use Rattle.laws.specs.Admitted.{Admitted}
 use Rattle.flows.specs.Amounts.{decidedIn}
 use Rattle.modes.specs.Barred.{barredMask}
+use Rattle.commitment.specs.Choice.{Rated, chosenOf}
+use Rattle.commitment.proofs.Ruled.{chosen-is}
 use Rattle.dispatch.specs.declared.commit.Committed.{Committed}
 use Rattle.dispatch.specs.declared.parts.Moment.{Moment}
 use Rattle.dispatch.specs.declared.quiet_step.Quiet.{Quiet}
@@ -110,7 +112,8 @@ module _ (st : Station) (tables : Tables st) (base : List SetState) (q : Quiet) 
         (adds burns : List ℕ) (added : adds ≡ energiesAfter (st .sets) (q .on) (w .diesel) energies) (burned : burns ≡ fuelsAfter (st .sets) (q .on) (w .diesel) fuels)
         (wanted : ℕ) (wants : wanted ≡ wantedFor (st .control) (restOf w) (w .solar) (w .shed) (x .sheddable))
         (held : Float) (holds : held ≡ heldAfter (st .control .k) (moment .setpoint) wanted)
-        (call : ℕ) (calls : (states : List SetState) → q .barred ≡ barredMask (st .sets) states → call ≡ chosen st states held (moment .called) (moment .since) (moment .done)) where
+        (caps : List ℕ) (rates : Rated (st .sets) (st .configs) caps)
+        (call : ℕ) (calls : call ≡ chosenOf st caps (q .barred) held (moment .called) (moment .since) (moment .done)) where
       abbrev ran' : List SetState
       ran' = sinceQuiet base (q .on) (ran + 1) adds burns
 
@@ -135,7 +138,7 @@ module _ (st : Station) (tables : Tables st) (base : List SetState) (q : Quiet) 
       barred-is = calm .is-barred ∙ quiet-barred (st .sets) base (q .on) (calm .is-on) (ran + 1) adds burns (calm .lasting)
 
       committed-now : CommittedNow st ran' (moment .setpoint) wanted (moment .called) (moment .since) (moment .done) committed
-      committed-now = record { held = holds; call = calls ran' barred-is; states-commanded = refl }
+      committed-now = record { held = holds; call = calls ∙ chosen-is st ran' caps (q .barred) barred-is rates held (moment .called) (moment .since) (moment .done); states-commanded = refl }
 
       pub quiet-call-most : call ≤ 64
       quiet-call-most = rw (call-now st r x supplied amounts supplied-now wanted wants committed committed-now) (call-most st tables r x h)

@@ -4,9 +4,9 @@ ghost use Rattle.rules.specs.Share.{capacity};
 ghost use Rattle.rules.specs.Modes.{onMask};
 ghost use Rattle.rules.specs.Commands.{counted, countedAll};
 ghost use Rattle.dispatch.specs.Sized.{Countable, CountableAll};
+use gensets::fuel::Rate;
 use gensets::fuel::fuel_rate;
 use modes::mode::is_on;
-use rules::answers::Amount;
 use rules::run::SetState;
 use rules::station::GenSet;
 
@@ -21,7 +21,7 @@ fn count(genset: GenSet, state: SetState, power: u32) -> SetState
     }
     let rate = fuel_rate(genset, power);
     // never taken: a set that is On has a curve that some file gives
-    let Amount::Value(burned) = rate else {
+    let Rate::PerHour(burned) = rate else {
         return state;
     };
     SetState {

@@ -1,15 +1,15 @@
--- A station record that some file gives: no place has more than 10,000,000 W, so its capacity is never refused. Assumes nothing.
+-- A station record that some file gives: no place has more than 10,000,000 W, so its capacity is never out of range. Assumes nothing.
 use Prim.Native.Nat.{ℕ, zero, suc, _≤_}
 use mathlib.Core.Path.{_≡_}
 use mathlib.Core.Bool.{true}
 use mathlib.Core.List.{List, [], _∷_}
 use native.Mathlib.Omega.{arith}
-use lib.Dec.{leb}
+use lib.Dec.{ltb}
 use lib.ListN.{getD, take, drop}
-use borrow.Author.Tests.{eqb-true}
+use borrow.Author.Tests.{eqb-true, le-ltb}
 use Rattle.rules.specs.declared.station.GenSet.{GenSet}
 use Rattle.rules.specs.declared.station.Station.{Station}
-use Rattle.rules.specs.Numbers.{tab, every}
+use Rattle.rules.specs.Numbers.{if_then_else_, tab, every}
 use Rattle.rules.specs.Answers.{accepted, need, _>>_}
 use Rattle.rules.specs.Share.{runningTotal, capacity, share}
 use Rattle.rules.specs.StationRecord.{pastEnd, setAt, setRight, pairsRight, setsRight, setUnused, unusedRules, someFileGives}
@@ -17,9 +17,9 @@ use Rattle.rules.proofs.Tests.{both, all-at}
 use Rattle.rules.proofs.Checks.{passed}
 use Rattle.rules.proofs.StationFacts.{right-of, rating-range}
 use Rattle.words.proofs.Weighed.{weighed-most}
-use Rattle.gensets.specs.Leaves.{sharesAsked}
+use Rattle.gensets.specs.declared.share.Sharing.{Sharing}
+use Rattle.gensets.specs.Leaves.{unshared, sharesTold}
 use Rattle.gensets.proofs.SharesWalk.{ratingOf}
-use Rattle.gensets.proofs.SharesAsked.{asked-of-some}
 
 unused-none : (g : GenSet) → setUnused g ≡ true → g .rating ≡ 0
 unused-none g h = eqb-true (g .rating) 0 (all-at (unusedRules g) 0 h)
@@ -46,7 +46,9 @@ module _ (st : Station) (given : someFileGives st ≡ true) where
   unfolding capacity runningTotal
   capacity-most mask = weighed-most (ratingOf (st .sets)) mask 10_000_000 rating-most 8
 
-  pub shares-asked : (mask diesel : ℕ)
-      → sharesAsked (st .sets) mask diesel
-      ≡ (need (leb diesel (capacity (st .sets) mask)) 19 0 >> accepted (tab 8 (share (st .sets) mask diesel)))
-  shares-asked mask diesel = asked-of-some (st .sets) mask diesel (capacity-most mask)
+  -- all the power, or it is above the capacity
+  pub station-shares : (mask diesel : ℕ)
+      → sharesTold (st .sets) mask diesel
+      ≡ (if ltb (capacity (st .sets) mask) diesel then unshared Sharing.OverCapacity else record { sharing = Sharing.Shared; watts = tab 8 (share (st .sets) mask diesel) })
+  unfolding sharesTold
+  station-shares mask diesel = rw (le-ltb 80_000_000 (capacity (st .sets) mask) (capacity-most mask))

@@ -8,30 +8,29 @@ use lib.ListN.{length}
 use borrow.Fn.Kinds as kinds
 use denote.Triple.Clauses as clauses
 use contract.Lifetimes.{Lfts}
-use Rattle.rules.specs.declared.answers.Amount.{Amount}
 use Rattle.rules.specs.declared.station.GenSet.{GenSet}
-use Rattle.rules.specs.Answers.{amountOf, valueOr}
 use Rattle.rules.specs.StationRecord.{setRight, pairsRight}
 use Rattle.rules.specs.Fuel.{fuelRate, curveScale, exactCurve, exactSum, fuelSum}
 use Rattle.laws.proofs.Fuel.{rate-below, rate-above, sum-below, sum-above}
-use Rattle.gensets.specs.Leaves.{rateOfSet}
-use Rattle.gensets.specs.Burned.{RateCall, Answered, powersOf, burned}
-use Rattle.gensets.proofs.FuelFacts.{rate-accepted}
+use Rattle.gensets.specs.declared.fuel.Rate.{Rate}
+use Rattle.gensets.specs.Leaves.{rateTold}
+use Rattle.gensets.specs.Burned.{RateCall, perHour, Answered, powersOf, burned}
+use Rattle.gensets.proofs.FuelFacts.{rate-known}
 use Rattle.gensets.proofs.fuel.fuel_rate.Reads as reads
 use Rattle.gensets.proofs.fuel.fuel_rate.Kinds as fuel-kinds
 
 -- the claim that Rattle projects from the contract in src/fuel.rt
-pub contract-says : (κs : Lfts 0) (a : kinds.Dens κs fuel-kinds.ps) (r : Amount) (s : clauses.AtExit (kinds.endedOf 0 fuel-kinds.ps fuel-kinds.r) κs)
-    → reads.Post κs a r s → amountOf r ≡ rateOfSet (a .0) (a .1 .0)
+pub contract-says : (κs : Lfts 0) (a : kinds.Dens κs fuel-kinds.ps) (r : Rate) (s : clauses.AtExit (kinds.endedOf 0 fuel-kinds.ps fuel-kinds.r) κs)
+    → reads.Post κs a r s → r ≡ rateTold (a .0) (a .1 .0)
 contract-says κs a r s p = p
 
 module _ (g : GenSet) (numbers : setRight g ≡ true) (pairs : pairsRight g ≡ true) where
-  value-told : (power : ℕ) (answer : Amount) → power ≤ 2 * g .rating → amountOf answer ≡ rateOfSet g power → valueOr 0 (amountOf answer) ≡ fuelRate g power
-  value-told power answer l e = ap (valueOr 0) (e ∙ rate-accepted g numbers pairs power l)
+  value-told : (power : ℕ) (answer : Rate) → power ≤ 2 * g .rating → answer ≡ rateTold g power → perHour answer ≡ fuelRate g power
+  value-told power answer l e = ap perHour (e ∙ rate-known g numbers pairs power l)
 
   -- "never above the exact curve, and less than one unit below"
-  pub rate-told : (power : ℕ) (answer : Amount) → power ≤ 2 * g .rating → amountOf answer ≡ rateOfSet g power
-      → (valueOr 0 (amountOf answer) * curveScale g ≤ exactCurve g power) × (exactCurve g power < (valueOr 0 (amountOf answer) + 1) * curveScale g)
+  pub rate-told : (power : ℕ) (answer : Rate) → power ≤ 2 * g .rating → answer ≡ rateTold g power
+      → (perHour answer * curveScale g ≤ exactCurve g power) × (exactCurve g power < (perHour answer + 1) * curveScale g)
   rate-told power answer l e =
       rw (value-told power answer l e) (rate-below g numbers pairs power, rate-above g numbers pairs power)
 

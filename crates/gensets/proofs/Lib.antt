@@ -1,6 +1,6 @@
 -- Laws of capacity, shares and fuel rate: those that the code leans on, and those that its callers do.
 pub mod SharesWalk
-pub mod SharesAsked
+pub mod SharesCases
 pub mod SharesTold
 pub mod FileCapacity
 pub mod Signed

@@ -3,17 +3,24 @@ ghost use mathlib.Core.Path.{_≡_};
 ghost use mathlib.Core.Bool.{true};
 ghost use Prim.Native.Nat.{suc, _*_, _/_, _^_, _≤_, _<_};
 ghost use lib.IntN.{pos, natAbs, _+ℤ_, _-ℤ_, _*ℤ_};
-ghost use Rattle.rules.specs.Answers.{amountOf};
 ghost use Rattle.rules.specs.Fuel.{notBelowZero, lowerPoint, exactFrom, stepAt};
-ghost use Rattle.gensets.specs.Leaves.{lineRight, rateOfSet};
-use rules::answers::Amount;
-use rules::answers::Refusal;
+ghost use Rattle.gensets.specs.Leaves.{lineRight, rateTold};
 use rules::limits::LEAST_POINTS;
 use rules::limits::MOST_LOAD;
 use rules::limits::MOST_POINTS;
 use rules::limits::MOST_RATE;
 use rules::limits::MOST_RATING;
 use rules::station::GenSet;
+
+// What a set burns at a power.
+pub enum Rate {
+    // mL/h, rounded down
+    PerHour(u64),
+    // the power is above twice the rating, to which the curve is followed
+    OverTwiceRating,
+    // the set's numbers are outside the rules of a file
+    OutOfRange,
+}
 
 // The whole product of two numbers.
 fn product(a: u32, b: u32) -> u64
@@ -94,21 +101,21 @@ fn line_rate(g: GenSet, j: usize, power: u32) -> u64
 }
 
 // The rate at a power, of any record.
-pub fn fuel_rate(g: GenSet, power: u32) -> Amount
-    ensures { λ r. ⌜ amountOf r ≡ rateOfSet g power ⌝ }
+pub fn fuel_rate(g: GenSet, power: u32) -> Rate
+    ensures { λ r. ⌜ r ≡ rateTold g power ⌝ }
 {
     if g.points < LEAST_POINTS {
-        return Amount::Refused(Refusal::StationRecord);
+        return Rate::OutOfRange;
     }
     if MOST_POINTS < g.points {
-        return Amount::Refused(Refusal::StationRecord);
+        return Rate::OutOfRange;
     }
     let j = lower_point(g, power);
     if !line_right(g, j) {
-        return Amount::Refused(Refusal::StationRecord);
+        return Rate::OutOfRange;
     }
     if 2 * g.rating < power {
-        return Amount::Refused(Refusal::OverLimit(0));
+        return Rate::OverTwiceRating;
     }
-    Amount::Value(line_rate(g, j, power))
+    Rate::PerHour(line_rate(g, j, power))
 }

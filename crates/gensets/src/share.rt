@@ -1,21 +1,27 @@
 // Steps 2 and 6: the capacity of a mask, and what each of its sets takes of the diesel power.
 ghost use mathlib.Core.Path.{_≡_};
-ghost use lib.ListN.{replicate};
-ghost use Rattle.rules.specs.Answers.{judged, valueOr, verdictOf};
 ghost use Rattle.rules.specs.Numbers.{tab};
 ghost use Rattle.rules.specs.Share.{capacity, share};
-ghost use Rattle.gensets.specs.Leaves.{Shareable, sharesAsked};
-use rules::answers::Refusal;
-use rules::answers::Verdict;
+ghost use Rattle.gensets.specs.Leaves.{Shareable, sharesTold};
 use rules::station::GenSet;
 use words::masks::next_set;
 
 // Eight sets of at most 10,000,000 W each.
 const MOST_CAPACITY: u64 = 80_000_000;
 
-// Each place's watts, beside whether they could be told; all 0 where not.
+// Whether a diesel power could be shared.
+pub enum Sharing {
+    // the sets take all of it
+    Shared,
+    // it is above the capacity of the sets
+    OverCapacity,
+    // the capacity is above what eight sets of a file have
+    OutOfRange,
+}
+
+// Each place's watts, beside whether the power could be shared; all 0 where not.
 pub struct ShareAnswer {
-    pub verdict: Verdict,
+    pub sharing: Sharing,
     pub watts: [u32; 8],
 }
 
@@ -58,31 +64,31 @@ fn taken(sets: [GenSet; 8], mask: u32, diesel: u32, cap: u64) -> [u32; 8]
 
 // What each set of the mask takes of the diesel power.
 pub fn shares(sets: [GenSet; 8], mask: u32, diesel: u32) -> ShareAnswer
-    ensures { λ r. ⌜ (verdictOf (r .verdict) ≡ judged (sharesAsked sets mask diesel)) × (r .watts ≡ valueOr (replicate 8 0) (sharesAsked sets mask diesel)) ⌝ }
+    ensures { λ r. ⌜ r ≡ sharesTold sets mask diesel ⌝ }
 {
     let cap = capacity(sets, mask);
     if MOST_CAPACITY < cap {
         return ShareAnswer {
-            verdict: Verdict::Refused(Refusal::StationRecord),
+            sharing: Sharing::OutOfRange,
             watts: [0; 8],
         };
     }
     if cap < diesel as u64 {
         return ShareAnswer {
-            verdict: Verdict::Refused(Refusal::OverLimit(0)),
+            sharing: Sharing::OverCapacity,
             watts: [0; 8],
         };
     }
     // no power asks nothing of a set, and for any other the capacity is not 0
     if diesel == 0 {
         return ShareAnswer {
-            verdict: Verdict::Accepted,
+            sharing: Sharing::Shared,
             watts: [0; 8],
         };
     }
     let watts = taken(sets, mask, diesel, cap);
     ShareAnswer {
-        verdict: Verdict::Accepted,
+        sharing: Sharing::Shared,
         watts,
     }
 }

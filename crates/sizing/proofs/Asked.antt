@@ -9,12 +9,12 @@ use native.Mathlib.Decide.{decLt}
 use native.Mathlib.Nat.{lt-of-lt-of-le}
 use lib.Count.{ones}
 use lib.Dec.{leb}
-use lib.ListN.{getD, replicate}
+use lib.ListN.{getD}
 use lib.Pow.{pow-mono}
 use borrow.Author.Tests.{ltb-true, lt-ltb, le-ltb, le-leb, lt-leb}
 use Rattle.rules.specs.declared.station.Station.{Station}
 use Rattle.rules.specs.Numbers.{existingOnly}
-use Rattle.rules.specs.Answers.{accepted, refused, need, valueOr, _>>_}
+use Rattle.rules.specs.Answers.{accepted, refused, need, _>>_}
 use Rattle.rules.specs.StationRecord.{setAt, someFileGives}
 use Rattle.rules.specs.Share.{runningTotal, capacity, share}
 use Rattle.rules.specs.Fuel.{fuelRate}
@@ -26,8 +26,10 @@ use Rattle.rules.proofs.StationFacts.{right-of}
 use Rattle.words.specs.Masks.{nextSet}
 use Rattle.words.proofs.Walk.{place}
 use Rattle.words.proofs.Weighed.{one-set-inside, one-set-weighed}
-use Rattle.gensets.specs.Leaves.{sharesAsked, rateOfSet}
-use Rattle.gensets.proofs.SharesAsked.{asked-within}
+use Rattle.gensets.specs.declared.share.ShareAnswer.{ShareAnswer}
+use Rattle.gensets.specs.declared.fuel.Rate.{Rate}
+use Rattle.gensets.specs.Leaves.{sharesTold, rateTold}
+use Rattle.gensets.proofs.SharesCases.{shared}
 use Rattle.gensets.proofs.FuelFacts.{station-rate}
 use Rattle.gensets.proofs.FileCapacity.{capacity-most}
 
@@ -74,9 +76,9 @@ module _ (st : Station) (mask power set : ℕ) where
 
 -- the watts that `shares` hands over
 pub watts-shared : (st : Station) → someFileGives st ≡ true → (mask power : ℕ) → power ≤ capacity (st .sets) mask
-    → (watts : List ℕ) → watts ≡ valueOr (replicate 8 0) (sharesAsked (st .sets) mask power) → (i : ℕ) → i < 8 → getD watts i 0 ≡ share (st .sets) mask power i
-watts-shared st given mask power l watts e i h =
-    ap (λ (w : List ℕ). getD w i 0) (e ∙ ap (valueOr (replicate 8 0)) (asked-within (st .sets) mask power (capacity-most st given mask) l))
+    → (r : ShareAnswer) → r ≡ sharesTold (st .sets) mask power → (i : ℕ) → i < 8 → getD (r .watts) i 0 ≡ share (st .sets) mask power i
+watts-shared st given mask power l r e i h =
+    ap (λ (a : ShareAnswer). getD (a .watts) i 0) (e ∙ sym (shared (st .sets) mask power (capacity-most st given mask) l))
     ∙ tab-at (share (st .sets) mask power) 8 i 0 h
 
 -- ---- fuel rate: the mask's one set
@@ -100,8 +102,8 @@ module _ (st : Station) (given : someFileGives st ≡ true) (shaped : Shaped st)
   unfolding capacity runningTotal
   one-capacity = one-set-weighed mask small one (λ i. setAt (st .sets) i .rating)
 
-  pub one-rate : (power : ℕ) → power ≤ capacity (st .sets) mask → rateOfSet (setAt (st .sets) (nextSet mask 0)) power ≡ accepted (rateOfMask st mask power)
+  pub one-rate : (power : ℕ) → power ≤ capacity (st .sets) mask → rateTold (setAt (st .sets) (nextSet mask 0)) power ≡ Rate.PerHour (rateOfMask st mask power)
   unfolding rateOfMask
   one-rate power l =
       station-rate st shaped given (nextSet mask 0) existing power (omega (arith, l, one-capacity))
-      ∙ ap accepted (sym (one-set-weighed mask small one (λ i. fuelRate (setAt (st .sets) i) power)))
+      ∙ ap Rate.PerHour (sym (one-set-weighed mask small one (λ i. fuelRate (setAt (st .sets) i) power)))

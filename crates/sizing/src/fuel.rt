@@ -5,6 +5,7 @@ ghost use Rattle.rules.specs.Answers.{amountOf};
 ghost use Rattle.rules.specs.StationRecord.{someFileGives};
 ghost use Rattle.rules.specs.Sizing.{rateAsked, rateOf};
 ghost use Rattle.rules.proofs.Shapes.{Shaped};
+use gensets::fuel::Rate;
 use gensets::fuel::fuel_rate;
 use gensets::share::capacity;
 use rules::answers::Amount;
@@ -30,7 +31,12 @@ fn rate_of_station(st: Station, mask: u64, power: u64) -> Amount
     }
     let at = next_set(named, 0) as usize;
     let g = sets[at];
-    fuel_rate(g, power as u32)
+    let rate = fuel_rate(g, power as u32);
+    // never taken: a set of a file has a rate at every power up to its rating
+    let Rate::PerHour(value) = rate else {
+        return Amount::Refused(Refusal::OverLimit(0));
+    };
+    Amount::Value(value)
 }
 
 pub(crate) fn rate_asked(s: &[u8], mask: u64, power: u64) -> Amount

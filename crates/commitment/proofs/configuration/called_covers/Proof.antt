@@ -1,25 +1,23 @@
 -- `commitment::configuration::called_covers` meets its contract. Assumes nothing.
-use Prim.Native.Nat.{_-_}
-use mathlib.Core.Path.{_≡_, sym, ap, _∙_}
-use mathlib.Core.Bool.{Bool}
+use mathlib.Core.Path.{_≡_}
 use native.Mathlib.Omega.{arith}
 use denote.Ref.{now}
-use lib.ListN.{length}
-use Rattle.rules.specs.Configuration.{maskCalled, usable, usableCovering}
+use Rattle.rules.specs.Configuration.{maskCalled}
+use Rattle.commitment.specs.Choice.{usableOf, usableCoveringOf, calledCovers}
 use Rattle.commitment.proofs.Choices.{mask-some, mask-past}
 use borrow.Author.Needs.{needs}
 use Rattle.commitment.proofs.configuration.called_covers.Statement.{statement}
 use Rattle.commitment.proofs.configuration.called_covers.Tie as tie
 
 returns : tie.Need-returns
-unfolding maskCalled usable usableCovering
-returns c = λ sets states e rated. rw (c .if1 .taken)
+unfolding maskCalled calledCovers usableCoveringOf usableOf
+returns c = rw (c .if1 .taken)
 
 returns-2 : tie.Need-returns-2
-unfolding usable usableCovering
-returns-2 c = λ sets states e rated.
+unfolding calledCovers usableCoveringOf usableOf
+returns-2 c =
     let start = c .before .before in
-    rw (← mask-past (now (start .args .configs)) (start .args .called) (omega (arith, rated .size)))
+    rw (← mask-past (now (start .args .configs)) (start .args .called) (omega (arith, start .pre)))
 
 sub-place : tie.Need-sub-place
 sub-place c = search needs
@@ -40,12 +38,12 @@ usable-covering-requires : tie.Need-usable-covering-requires
 usable-covering-requires c κs = search needs
 
 returns-3 : tie.Need-returns-3
-returns-3 c = λ sets states e rated.
+unfolding calledCovers
+returns-3 c =
     let wide = c .before .before in
     let left = wide .before .before in
     let start = left .before .before in
-    let place = start .args .called - 1 in
-    c .usable-covering .ensures sets states e (rated .each place (omega arith) ∙ rw (wide .wide .ensures)) ∙ ap (usableCovering sets states (start .args .held)) (wide .wide .ensures ∙ mask-some (now (start .args .configs)) (start .args .called) (left .before .if1 .left))
+    rw (← mask-some (now (start .args .configs)) (start .args .called) (left .before .if1 .left), ← wide .wide .ensures) (c .usable-covering .ensures)
 
 pub called-covers-spec : {M : Type 1} → statement M
 called-covers-spec =

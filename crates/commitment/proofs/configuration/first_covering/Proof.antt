@@ -1,15 +1,10 @@
 -- `commitment::configuration::first_covering` meets its contract: what is left of the configurations decides. Assumes nothing.
 use Prim.Native.Nat.{_-_, _≤_}
 use mathlib.Core.Path.{_≡_, refl, sym, _∙_}
-use mathlib.Core.List.{List}
 use native.Mathlib.Omega.{arith}
 use denote.Ref.{now}
 use lib.ListN.{length, take, drop}
-use Rattle.rules.specs.declared.station.GenSet.{GenSet}
-use Rattle.rules.specs.declared.run.SetState.{SetState}
-use Rattle.modes.specs.Barred.{barredMask}
-use Rattle.commitment.specs.Choice.{Rated}
-use Rattle.rules.specs.Configuration.{firstCovering}
+use Rattle.commitment.specs.Choice.{firstCoveringOf}
 use Rattle.commitment.proofs.Choices.{first-here, first-later, first-none}
 use borrow.Author.Needs.{needs}
 use Rattle.commitment.proofs.configuration.first_covering.Statement.{statement}
@@ -17,15 +12,15 @@ use Rattle.commitment.proofs.configuration.first_covering.Tie as tie
 
 abbrev Inv-loop : tie.InvT-loop
 Inv-loop configs caps configcount barred held i₀ i =
-    (configcount ≤ 64)
-    × ((sets : List GenSet) (states : List SetState) → barred ≡ barredMask sets states → Rated sets configs caps
-    → firstCovering sets states held 0 (take configcount configs) ≡ firstCovering sets states held i (drop i (take configcount configs)))
+    (length configs ≡ 64)
+    × (configcount ≤ 64)
+    × (firstCoveringOf caps barred held 0 (take configcount configs) ≡ firstCoveringOf caps barred held i (drop i (take configcount configs)))
 
 abbrev μ-loop : tie.MeasureT-loop
 μ-loop configs caps configcount barred held i₀ i = configcount - i
 
 loop-holds : tie.Need-loop-holds Inv-loop μ-loop
-loop-holds c = (c .pre, λ sets states e rated. refl)
+loop-holds c = (c .pre .0, c .pre .1, refl)
 
 element-copy-out-wide : tie.Need-element-copy-out-wide Inv-loop μ-loop
 element-copy-out-wide c = search needs
@@ -46,13 +41,13 @@ usable-covering-requires : tie.Need-usable-covering-requires Inv-loop μ-loop
 usable-covering-requires c κs = search needs
 
 returns : tie.Need-returns Inv-loop μ-loop
-returns c = λ sets states e rated.
+returns c =
     let told = c .before in
     let wide = told .before .before in
     let at = wide .before .before .before in
     let a = at .before .args in
-    first-here sets states (now (a .configs)) (a .configcount) (at .loop .i) (omega (arith, rated .size, at .loop .inv .0)) (a .held) _ (at .loop .inv .1 sets states e rated) (search needs)
-    (sym (told .usable-covering .ensures sets states e (rated .each (at .loop .i) (omega (arith, at .loop .inv .0)) ∙ rw (wide .wide .ensures)) ∙ rw (wide .wide .ensures)) ∙ c .if1 .taken)
+    first-here (now (a .caps)) (a .barred) (now (a .configs)) (a .configcount) (at .loop .i) (omega (arith, at .loop .inv .0, at .loop .inv .1)) (a .held) _ (at .loop .inv .2) (search needs)
+    (rw (← wide .wide .ensures) (sym (told .usable-covering .ensures) ∙ c .if1 .taken))
 
 loop-less : tie.Need-loop-less Inv-loop μ-loop
 loop-less c = search needs
@@ -64,15 +59,16 @@ loop-again c =
     let at = wide .before .before .before in
     let a = at .before .args in (
       at .loop .inv .0,
-      λ sets states e rated. first-later sets states (now (a .configs)) (a .configcount) (at .loop .i) (omega (arith, rated .size, at .loop .inv .0)) (a .held) _ (at .loop .inv .1 sets states e rated) (search needs)
-          (sym (told .usable-covering .ensures sets states e (rated .each (at .loop .i) (omega (arith, at .loop .inv .0)) ∙ rw (wide .wide .ensures)) ∙ rw (wide .wide .ensures)) ∙ c .if1 .left),
+      at .loop .inv .1,
+      first-later (now (a .caps)) (a .barred) (now (a .configs)) (a .configcount) (at .loop .i) (omega (arith, at .loop .inv .0, at .loop .inv .1)) (a .held) _ (at .loop .inv .2) (search needs)
+          (rw (← wide .wide .ensures) (sym (told .usable-covering .ensures) ∙ c .if1 .left)),
     )
 
 returns-2 : tie.Need-returns-2 Inv-loop μ-loop
-returns-2 c = λ sets states e rated.
+returns-2 c =
     let at = c .before in
     let a = at .before .args in
-    first-none sets states (now (a .configs)) (a .configcount) (at .loop .i) (omega (arith, rated .size, at .loop .inv .0)) (a .held) _ (at .loop .inv .1 sets states e rated) (search needs)
+    first-none (now (a .caps)) (a .barred) (now (a .configs)) (a .configcount) (at .loop .i) (omega (arith, at .loop .inv .0, at .loop .inv .1)) (a .held) _ (at .loop .inv .2) (search needs)
 
 pub first-covering-spec : {M : Type 1} → statement M
 first-covering-spec =

@@ -1,15 +1,10 @@
 -- `commitment::configuration::greatest_usable` meets its contract: what is left of the configurations decides. Assumes nothing.
 use Prim.Native.Nat.{_-_, _≤_}
 use mathlib.Core.Path.{_≡_, refl, sym, _∙_}
-use mathlib.Core.List.{List}
 use native.Mathlib.Omega.{arith}
 use denote.Ref.{now}
 use lib.ListN.{length, take, drop}
-use Rattle.rules.specs.declared.station.GenSet.{GenSet}
-use Rattle.rules.specs.declared.run.SetState.{SetState}
-use Rattle.modes.specs.Barred.{barredMask}
-use Rattle.commitment.specs.Choice.{Rated}
-use Rattle.rules.specs.Configuration.{greatestUsable}
+use Rattle.commitment.specs.Choice.{none, greatestUsableOf}
 use Rattle.commitment.proofs.Choices.{greatest-turn, greatest-end}
 use borrow.Author.Needs.{needs}
 use Rattle.commitment.proofs.configuration.greatest_usable.Statement.{statement}
@@ -17,16 +12,15 @@ use Rattle.commitment.proofs.configuration.greatest_usable.Tie as tie
 
 abbrev Inv-loop : tie.InvT-loop
 Inv-loop configs caps configcount barred greatest₀ i₀ greatest i =
-    (configcount ≤ 64)
-    × ((sets : List GenSet) (states : List SetState) → barred ≡ barredMask sets states → Rated sets configs caps
-    → greatestUsable sets states 0 0 0 (take configcount configs)
-    ≡ greatestUsable sets states (greatest .number) (greatest .most) i (drop i (take configcount configs)))
+    (length configs ≡ 64)
+    × (configcount ≤ 64)
+    × (greatestUsableOf caps barred none 0 (take configcount configs) ≡ greatestUsableOf caps barred greatest i (drop i (take configcount configs)))
 
 abbrev μ-loop : tie.MeasureT-loop
 μ-loop configs caps configcount barred greatest₀ i₀ greatest i = configcount - i
 
 loop-holds : tie.Need-loop-holds Inv-loop μ-loop
-loop-holds c = (c .pre, λ sets states e rated. refl)
+loop-holds c = (c .pre .0, c .pre .1, refl)
 
 element-copy-out-wide : tie.Need-element-copy-out-wide Inv-loop μ-loop
 element-copy-out-wide c = search needs
@@ -55,15 +49,16 @@ loop-again c =
     let at = wide .before .before .before in
     let a = at .before .args in (
       at .loop .inv .0,
-      λ sets states e rated. greatest-turn sets states (now (a .configs)) (a .configcount) (at .loop .i) (omega (arith, rated .size, at .loop .inv .0)) (at .loop .greatest) _ (at .loop .inv .1 sets states e rated) _ (search needs)
-          (c .greater .ensures sets states e (rated .each (at .loop .i) (omega (arith, at .loop .inv .0)) ∙ rw (wide .wide .ensures)) ∙ rw (wide .wide .ensures)),
+      at .loop .inv .1,
+      greatest-turn (now (a .caps)) (a .barred) (now (a .configs)) (a .configcount) (at .loop .i) (omega (arith, at .loop .inv .0, at .loop .inv .1)) (at .loop .greatest) _ (at .loop .inv .2) _ (search needs)
+          (rw (← wide .wide .ensures) (c .greater .ensures)),
     )
 
 returns : tie.Need-returns Inv-loop μ-loop
-returns c = λ sets states e rated.
+returns c =
     let at = c .before in
     let a = at .before .args in
-    greatest-end sets states (now (a .configs)) (a .configcount) (at .loop .i) (omega (arith, rated .size, at .loop .inv .0)) (at .loop .greatest) _ (at .loop .inv .1 sets states e rated) (search needs)
+    greatest-end (now (a .caps)) (a .barred) (now (a .configs)) (a .configcount) (at .loop .i) (omega (arith, at .loop .inv .0, at .loop .inv .1)) (at .loop .greatest) _ (at .loop .inv .2) (search needs)
 
 pub greatest-usable-spec : {M : Type 1} → statement M
 greatest-usable-spec =

@@ -1,10 +1,12 @@
 -- `commitment::configuration::usable` meets its contract. Assumes nothing.
-use Rattle.commitment.proofs.Usable.{usable-mask}
+use mathlib.Core.Path.{refl}
+use Rattle.commitment.specs.Choice.{usableOf}
 use Rattle.commitment.proofs.configuration.usable.Statement.{statement}
 use Rattle.commitment.proofs.configuration.usable.Tie as tie
 
 returns : tie.Need-returns
-returns c = λ sets states e. usable-mask sets states (c .args .mask) (c .args .barred) e
+unfolding usableOf
+returns c = refl
 
 pub usable-spec : {M : Type 1} → statement M
 usable-spec = tie.close (tie.spec returns)

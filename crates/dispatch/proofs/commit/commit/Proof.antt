@@ -1,6 +1,8 @@
 -- `dispatch::commit::commit` meets its contract. Assumes nothing.
 use mathlib.Core.Path.{_≡_, _∙_}
+use denote.Ref.{now}
 use borrow.Author.Needs.{needs}
+use Rattle.commitment.proofs.Ruled.{chosen-is}
 use Rattle.dispatch.proofs.commit.commit.Statement.{statement}
 use Rattle.dispatch.proofs.commit.commit.Tie as tie
 
@@ -23,7 +25,9 @@ returns : tie.Need-returns
 returns c =
     let barred = c .before .before .before in
     let start = barred .before .before .before .before .before in
-    record { held = barred .before .held-after .ensures; call = c .before .before .chosen .ensures (start .args .states) (barred .barred-mask .ensures .0) (start .pre .1); states-commanded = c .command-all .ensures ∙ rw (c .before .mask-called .ensures .0) }
+    let a = start .args in
+    let called = chosen-is (a .st) (a .states) (now (a .caps)) _ (barred .barred-mask .ensures .0) (start .pre .1) _ (a .called) (a .since) (a .second) in
+    record { held = barred .before .held-after .ensures; call = rw (c .before .before .chosen .ensures) called; states-commanded = c .command-all .ensures ∙ rw (c .before .mask-called .ensures .0) }
 
 pub commit-spec : {M : Type 1} → statement M
 commit-spec =

@@ -1,4 +1,4 @@
--- `dispatch::counts::count` meets its contract: a set that is On has a rate, so the call of the fuel rate is never refused.
+-- `dispatch::counts::count` meets its contract: a set that is On has a rate, so the call of the fuel rate answers it.
 -- Assumes nothing.
 use borrow.Author.Needs.{needs}
 use Prim.Native.Nat.{ℕ, _+_, _*_, _≤_}
@@ -6,36 +6,29 @@ use mathlib.Core.Path.{_≡_, refl, sym, ap, _∙_}
 use mathlib.Core.Bool.{Bool, true, false}
 use native.Mathlib.Omega.{arith}
 use borrow.Author.Tests.{not-true, not-false}
-use Rattle.rules.specs.declared.answers.Amount.{Amount}
-use Rattle.rules.specs.declared.answers.Amount.the-variants.{Value, Refused}
-use Rattle.rules.specs.declared.answers.Refusal.{Refusal}
 use Rattle.rules.specs.declared.station.GenSet.{GenSet}
 use Rattle.rules.specs.declared.run.SetState.{SetState}
-use Rattle.rules.specs.Answers.{accepted, refused, numberAndPlace, amountOf}
 use Rattle.rules.specs.Fuel.{fuelRate}
 use Rattle.rules.specs.Modes.{isOn}
 use Rattle.rules.specs.Commands.{counted}
-use Rattle.rules.proofs.Checks.{same-value}
 use Rattle.laws.proofs.FuelMost.{rate-most}
-use Rattle.gensets.specs.Leaves.{rateOfSet}
-use Rattle.gensets.proofs.FuelFacts.{rate-accepted}
+use Rattle.gensets.specs.declared.fuel.Rate.{Rate}
+use Rattle.gensets.specs.Burned.{perHour}
+use Rattle.gensets.specs.Leaves.{rateTold}
+use Rattle.gensets.proofs.FuelFacts.{rate-only, rate-known}
 use Rattle.dispatch.specs.Sized.{Countable}
 use Rattle.dispatch.proofs.counts.count.Statement.{statement}
 use Rattle.dispatch.proofs.counts.count.Tie as tie
 
 module _ (g : GenSet) (s : SetState) (power : ℕ) (h : Countable g s power) (is-on : isOn (s .mode) ≡ true) where
-  rated : rateOfSet g power ≡ accepted (fuelRate g power)
-  rated = rate-accepted g (h .numbers is-on) (h .pairs is-on) power (omega (arith, h .power-most))
+  rated : (r : Rate) → r ≡ rateTold g power → r ≡ Rate.PerHour (fuelRate g power)
+  rated r e = e ∙ rate-known g (h .numbers is-on) (h .pairs is-on) power (omega (arith, h .power-most))
 
   small : fuelRate g power ≤ 15_000_000_000
   small = rate-most g (h .numbers is-on) (h .pairs is-on) power (h .power-most)
 
-  -- the call is never refused, and its value is the rate
-  never-refused : (a : Amount) (r : Refusal) → amountOf a ≡ rateOfSet g power → a ≡ Refused r → s ≡ counted g s power
-  never-refused a r e q = absurd (let z : refused (numberAndPlace r .0) (numberAndPlace r .1) ≡ accepted (fuelRate g power) = ap amountOf (sym q) ∙ e ∙ rated in let y : _≡_ {A = ℕ} 0 1 = cc in omega arith)
-
-  burned-is : (a : Amount) (n : ℕ) → amountOf a ≡ rateOfSet g power → a ≡ Value n → n ≡ fuelRate g power
-  burned-is a n e q = same-value n (fuelRate g power) (ap amountOf (sym q) ∙ e ∙ rated)
+  burned-is : (r : Rate) (n : ℕ) → r ≡ rateTold g power → r ≡ Rate.PerHour n → n ≡ fuelRate g power
+  burned-is r n e q = ap perHour (sym q ∙ rated r e)
 
 -- a set that is not On stays as it is
 idle : (g : GenSet) (s : SetState) (power : ℕ) → isOn (s .mode) ≡ false → s ≡ counted g s power
@@ -54,12 +47,10 @@ fuel-rate-requires c κs = search needs
 enum-known-rate : tie.Need-enum-known-rate
 enum-known-rate c = search needs
 
-enum-told : tie.Need-enum-told
-enum-told c = search needs
-
 returns-2 : tie.Need-returns-2
 returns-2 c =
-    never-refused _ _ _ (c .before .before .before .before .before .pre) (sym (c .before .before .before .before .is-on .ensures) ∙ not-false _ (c .before .before .before .if1 .left)) _ _ (c .before .before .fuel-rate .ensures) (c .enum-told .given .1)
+    let after-is-on = c .before .before .before in
+    absurd (rate-only _ _ (rated _ _ _ (after-is-on .before .pre) (sym (after-is-on .is-on .ensures) ∙ not-false _ (c .before .before .if1 .left)) _ (c .before .fuel-rate .ensures)) (c .match .keys2))
 
 add-t9 : tie.Need-add-t9
 add-t9 c = search needs
@@ -96,7 +87,6 @@ count-spec =
     returns
     fuel-rate-requires
     enum-known-rate
-    enum-told
     returns-2
     add-t9
     add-t10

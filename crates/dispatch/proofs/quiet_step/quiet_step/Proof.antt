@@ -74,7 +74,7 @@ row-of-requires c κs =
     let shed = left .before .before in
     let flowed = shed .before .before in
     let start = flowed .before .before .before .before .before .before .before .before in
-    quiet-call-most (start .args .st) (tables start) (start .args .base) (start .args .quiet) (start .args .ran) (start .pre .0) (start .args .moment) (now (start .args .energies)) (now (start .args .fuels)) (now (start .args .decided)) (start .args .inputs) (start .pre .1) _ (flowed .flow .ensures .0) _ (flowed .flow .ensures .1) _ (shed .shed-decided .ensures) (start .pre .3) _ (left .decide .ensures) _ _ (added .count-quiet .ensures .0) (added .count-quiet .ensures .1) _ (wanting .wanted-now .ensures) _ (holding .held-after .ensures) _ (λ states e. choosing .chosen .ensures states e (start .pre .2))
+    quiet-call-most (start .args .st) (tables start) (start .args .base) (start .args .quiet) (start .args .ran) (start .pre .0) (start .args .moment) (now (start .args .energies)) (now (start .args .fuels)) (now (start .args .decided)) (start .args .inputs) (start .pre .1) _ (flowed .flow .ensures .0) _ (flowed .flow .ensures .1) _ (shed .shed-decided .ensures) (start .pre .3) _ (left .decide .ensures) _ _ (added .count-quiet .ensures .0) (added .count-quiet .ensures .1) _ (wanting .wanted-now .ensures) _ (holding .held-after .ensures) _ (start .pre .2) _ (choosing .chosen .ensures)
 
 same-length : tie.Need-same-length
 same-length c =
@@ -99,7 +99,7 @@ returns c =
     let shed = left .before .before in
     let flowed = shed .before .before in
     let start = flowed .before .before .before .before .before .before .before .before in
-    let same = quiet-step-now (start .args .st) (tables start) (start .args .base) (start .args .quiet) (start .args .ran) (start .pre .0) (start .args .moment) (now (start .args .energies)) (now (start .args .fuels)) (now (start .args .decided)) (start .args .inputs) (start .pre .1) _ (flowed .flow .ensures .0) _ (flowed .flow .ensures .1) _ (shed .shed-decided .ensures) (start .pre .3) _ (left .decide .ensures) _ _ (added .count-quiet .ensures .0) (added .count-quiet .ensures .1) _ (wanting .wanted-now .ensures) _ (holding .held-after .ensures) _ (λ states e. choosing .chosen .ensures states e (start .pre .2)) _ refl _ refl in
+    let same = quiet-step-now (start .args .st) (tables start) (start .args .base) (start .args .quiet) (start .args .ran) (start .pre .0) (start .args .moment) (now (start .args .energies)) (now (start .args .fuels)) (now (start .args .decided)) (start .args .inputs) (start .pre .1) _ (flowed .flow .ensures .0) _ (flowed .flow .ensures .1) _ (shed .shed-decided .ensures) (start .pre .3) _ (left .decide .ensures) _ _ (added .count-quiet .ensures .0) (added .count-quiet .ensures .1) _ (wanting .wanted-now .ensures) _ (holding .held-after .ensures) _ (start .pre .2) _ (choosing .chosen .ensures) _ refl _ refl in
     rw (c .before .moment-after .ensures, c .row-of .ensures) (record { after = ap (λ (z : Step). z .run) same; row = ap (λ (z : Step). z .row) same })
 
 pub quiet-step-spec : {M : Type 1} → statement M

@@ -4,7 +4,7 @@ use mathlib.Core.Path.{_≡_, sym, ap, _∙_}
 use mathlib.Core.Bool.{true}
 use native.Mathlib.Omega.{arith}
 use borrow.Author.Tests.{not-true, not-false}
-use Rattle.rules.specs.Answers.{accepted}
+use Rattle.gensets.specs.declared.fuel.Rate.{Rate}
 use Rattle.gensets.specs.Leaves.{lineRight}
 use Rattle.gensets.proofs.Line.{rated}
 use Rattle.gensets.proofs.FuelFacts.{too-few, too-many, line-wrong, power-over, rate-given}
@@ -50,7 +50,7 @@ returns-5 : tie.Need-returns-5
 returns-5 c =
     let s = c .before .before .before .before .before .before .before .before .before .before in
     let lower = c .before .before .before .before .before .lower-point in
-    ap accepted (c .line-rate .ensures)
+    ap Rate.PerHour (c .line-rate .ensures)
     ∙ rate-given (s .args .g) (s .args .power) (search needs) (search needs) (lower .result) (lower .ensures .0) (right (c .before .before .before)) (omega arith)
 
 pub fuel-rate-spec : {M : Type 1} → statement M

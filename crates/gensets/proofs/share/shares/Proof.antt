@@ -1,9 +1,9 @@
 -- `gensets::share::shares` meets its contract. Assumes nothing.
 use borrow.Author.Needs.{needs}
-use mathlib.Core.Path.{_≡_, refl, sym}
+use mathlib.Core.Path.{_≡_, sym, _∙_}
 use native.Mathlib.Omega.{arith}
 use Rattle.rules.specs.Share.{capacity}
-use Rattle.gensets.proofs.SharesAsked.{no-power, asked-of-none, asked-too-much, asked-within}
+use Rattle.gensets.proofs.SharesCases.{no-power, out-of-range, over-capacity, shared}
 use Rattle.gensets.proofs.share.shares.Statement.{statement}
 use Rattle.gensets.proofs.share.shares.Tie as tie
 use Rattle.gensets.proofs.share.shares.Reads as reads
@@ -18,20 +18,20 @@ returns : tie.Need-returns
 returns c =
     let s = c .before .before .args in
     let e = c .before .capacity .ensures in
-    rw (asked-of-none (s .sets) (s .mask) (s .diesel) (omega arith)) (refl, refl)
+    out-of-range (s .sets) (s .mask) (s .diesel) (omega arith)
 
 returns-2 : tie.Need-returns-2
 returns-2 c =
     let s = c .before .before .before .args in
     let e = c .before .before .capacity .ensures in
-    rw (asked-too-much (s .sets) (s .mask) (s .diesel) (omega arith) (omega arith)) (refl, refl)
+    over-capacity (s .sets) (s .mask) (s .diesel) (omega arith) (omega arith)
 
 returns-3 : tie.Need-returns-3
 returns-3 c =
     let s = c .before .before .before .before .args in
     let e = c .before .before .before .capacity .ensures in
     let none : s .diesel ≡ 0 = search needs in
-    rw (asked-within (s .sets) (s .mask) (s .diesel) (omega arith) (omega arith)) (refl, rw none (sym (no-power (s .sets) (s .mask))))
+    rw (← no-power (s .sets) (s .mask), none) (shared (s .sets) (s .mask) 0 (omega arith) (omega arith))
 
 taken-requires : tie.Need-taken-requires
 taken-requires c κs = search needs
@@ -40,7 +40,7 @@ returns-4 : tie.Need-returns-4
 returns-4 c =
     let s = c .before .before .before .before .before .args in
     let e = c .before .before .before .before .capacity .ensures in
-    rw (asked-within (s .sets) (s .mask) (s .diesel) (omega arith) (omega arith)) (refl, c .taken .ensures)
+    rw (c .taken .ensures) (shared (s .sets) (s .mask) (s .diesel) (omega arith) (omega arith))
 
 pub shares-spec : {M : Type 1} → statement M
 shares-spec = tie.close (tie.spec capacity-requires returns returns-2 returns-3 taken-requires returns-4)

@@ -45,7 +45,7 @@ returns-3 c =
     let b = c .before .before .before .before .before in
     let a = b .args in
     let at : a .set - 1 < 8 = omega (arith, right-of (a .st) (b .pre .0) .setcount .1) in
-    watts-shared (a .st) (b .pre .0) (a .mask) (a .power) (b .pre .1) _ (c .before .shares .ensures .1) (a .set - 1) at ∙ set-share (a .st) (a .mask) (a .power) (a .set) (search needs) (search needs)
+    watts-shared (a .st) (b .pre .0) (a .mask) (a .power) (b .pre .1) _ (c .before .shares .ensures) (a .set - 1) at ∙ set-share (a .st) (a .mask) (a .power) (a .set) (search needs) (search needs)
 
 pub share-of-set-spec : {M : Type 1} → statement M
 share-of-set-spec =

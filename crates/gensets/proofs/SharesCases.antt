@@ -4,16 +4,15 @@ use mathlib.Core.Path.{_≡_, sym, _∙_}
 use mathlib.Core.List.{List}
 use native.Mathlib.Omega.{arith}
 use native.Mathlib.Nat.{zero-mul, zero-div}
-use lib.Dec.{leb}
 use lib.ListN.{replicate, getD-replicate}
 use lib.Seq.{ext-getD}
-use borrow.Author.Tests.{le-leb, lt-leb}
+use borrow.Author.Tests.{lt-ltb, le-ltb}
 use Rattle.rules.specs.declared.station.GenSet.{GenSet}
 use Rattle.rules.specs.Numbers.{tab}
-use Rattle.rules.specs.Answers.{accepted, refused, need, _>>_}
 use Rattle.rules.specs.Share.{capacity, share}
 use Rattle.rules.proofs.Tables.{length-tab, tab-at}
-use Rattle.gensets.specs.Leaves.{sharesAsked}
+use Rattle.gensets.specs.declared.share.Sharing.{Sharing}
+use Rattle.gensets.specs.Leaves.{unshared, sharesTold}
 
 -- no power asks nothing of any set, whatever the capacity
 takes-nothing : (sets : List GenSet) (mask k : ℕ) → share sets mask 0 k ≡ 0
@@ -27,17 +26,15 @@ no-power sets mask =
     tab-at (share sets mask 0) 8 k 0 h ∙ takes-nothing sets mask k ∙ sym (getD-replicate 8 k 0 0 h))
 
 module _ (sets : List GenSet) (mask diesel : ℕ) where
-  pub asked-of-none : 80_000_000 < capacity sets mask → sharesAsked sets mask diesel ≡ refused 25 0
-  unfolding sharesAsked
-  asked-of-none h = rw (lt-leb (capacity sets mask) 80_000_000 h)
+  pub out-of-range : 80_000_000 < capacity sets mask → unshared Sharing.OutOfRange ≡ sharesTold sets mask diesel
+  unfolding sharesTold
+  out-of-range h = rw (lt-ltb 80_000_000 (capacity sets mask) h)
 
-  pub asked-of-some : capacity sets mask ≤ 80_000_000
-      → sharesAsked sets mask diesel ≡ (need (leb diesel (capacity sets mask)) 19 0 >> accepted (tab 8 (share sets mask diesel)))
-  unfolding sharesAsked
-  asked-of-some h = rw (le-leb (capacity sets mask) 80_000_000 h)
+  module _ (small : capacity sets mask ≤ 80_000_000) where
+    pub over-capacity : capacity sets mask < diesel → unshared Sharing.OverCapacity ≡ sharesTold sets mask diesel
+    unfolding sharesTold
+    over-capacity h = rw (le-ltb 80_000_000 (capacity sets mask) small, lt-ltb (capacity sets mask) diesel h)
 
-  pub asked-too-much : capacity sets mask ≤ 80_000_000 → capacity sets mask < diesel → sharesAsked sets mask diesel ≡ refused 19 0
-  asked-too-much h k = asked-of-some h ∙ rw (lt-leb diesel (capacity sets mask) k)
-
-  pub asked-within : capacity sets mask ≤ 80_000_000 → diesel ≤ capacity sets mask → sharesAsked sets mask diesel ≡ accepted (tab 8 (share sets mask diesel))
-  asked-within h k = asked-of-some h ∙ rw (le-leb diesel (capacity sets mask) k)
+    pub shared : diesel ≤ capacity sets mask → record { sharing = Sharing.Shared; watts = tab 8 (share sets mask diesel) } ≡ sharesTold sets mask diesel
+    unfolding sharesTold
+    shared h = rw (le-ltb 80_000_000 (capacity sets mask) small, le-ltb (capacity sets mask) diesel h)
