@@ -6,7 +6,7 @@ use crate::hex;
 use crate::judge::answers;
 use crate::refusal::Refusal;
 use crate::run::write_run;
-use crate::samples::{self, Sample};
+use crate::samples::{self, Reading};
 use crate::sizing;
 use crate::station_file;
 use crate::text;
@@ -60,7 +60,7 @@ pub fn answer_line(kind: Kind, line: &str) -> Option<String> {
     match kind {
         Kind::Stations => answer_station(line),
         Kind::Samples => Some(checked(samples::read(&hex::read(line)?))),
-        Kind::Sheets => Some(rows(samples::read(&hex::read(line)?))),
+        Kind::Sheets => Some(rows(samples::read_lines(&hex::read(line)?))),
         Kind::Runs => answer_run(line),
         Kind::Seconds => Some(text::answer(&text::read_case(line)?)),
         Kind::Judged => answers::judged(line),
@@ -77,15 +77,16 @@ pub fn checked<T>(outcome: Result<T, Refusal>) -> String {
     }
 }
 
-/// A sample file's accepted rows, skipped ones left out, or its refusal:
-/// `accepted`, how many they are, and each as `time:load:solar:sheddable`.
-pub fn rows(outcome: Result<Vec<Sample>, Refusal>) -> String {
-    let samples = match outcome {
-        Ok(samples) => samples,
-        Err(refusal) => return refusal.to_string(),
+/// A sample file's accepted rows, skipped ones left out: `accepted` or the refusal,
+/// how many rows there are (before the refused line), and each as
+/// `time:load:solar:sheddable`.
+pub fn rows(reading: Reading) -> String {
+    let verdict = match reading.refusal {
+        None => "accepted".to_string(),
+        Some(refusal) => refusal.to_string(),
     };
-    let mut text = format!("accepted {}", samples.len());
-    for sample in samples {
+    let mut text = format!("{verdict} {}", reading.rows.len());
+    for sample in reading.rows {
         let (time, load) = (sample.time, sample.load);
         let (solar, sheddable) = (sample.solar, sample.sheddable);
         text.push_str(&format!(" {time}:{load}:{solar}:{sheddable}"));

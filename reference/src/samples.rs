@@ -22,13 +22,39 @@ pub struct Sample {
     pub sheddable: u64,
 }
 
+/// What a reader that goes from the top line by line has of a sample file.
+#[derive(Clone, Debug, Default, PartialEq, Eq)]
+pub struct Reading {
+    /// The accepted rows, skipped ones left out: of all lines, or of those before
+    /// the refused one.
+    pub rows: Vec<Sample>,
+    /// The first refusal; none where the file is accepted.
+    pub refusal: Option<Refusal>,
+}
+
 /// The accepted rows of a sample file, skipped ones left out, or its first refusal.
 pub fn read(file: &[u8]) -> Result<Vec<Sample>, Refusal> {
+    let reading = read_lines(file);
+    match reading.refusal {
+        None => Ok(reading.rows),
+        Some(refusal) => Err(refusal),
+    }
+}
+
+/// Reads a sample file up to its first refused line, or to its end.
+pub fn read_lines(file: &[u8]) -> Reading {
+    let mut rows = Vec::new();
+    let refusal = take_rows(file, &mut rows).err();
+    Reading { rows, refusal }
+}
+
+/// Hands over the accepted rows line by line; those of the lines before the
+/// refused one stay handed over.
+fn take_rows(file: &[u8], accepted: &mut Vec<Sample>) -> Result<(), Refusal> {
     let mut lines = Lines::of(file);
     // "first heading not `t` (an empty file too)": the heading line is line 1.
     let heading_line = lines.next().ok_or(Refusal::at(16, 1))?;
     let columns = read_headings(&heading_line)?;
-    let mut accepted: Vec<Sample> = Vec::new();
     for line in lines {
         let sample = read_row(&line, &columns)?;
         match accepted.last() {
@@ -40,10 +66,10 @@ pub fn read(file: &[u8]) -> Result<Vec<Sample>, Refusal> {
             _ => accepted.push(sample),
         }
     }
-    if accepted.is_empty() {
-        return Err(Refusal::placeless(22));
+    match accepted.is_empty() {
+        true => Err(Refusal::placeless(22)),
+        false => Ok(()),
     }
-    Ok(accepted)
 }
 
 /// The column that a heading names, compared byte for byte.

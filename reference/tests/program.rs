@@ -109,10 +109,11 @@ fn e4_file_checks_and_sizing_answers() {
 #[test]
 fn sheets_are_answered_with_their_rows() {
     let reference = env!("CARGO_BIN_EXE_reference");
-    let files: [&[u8]; 4] = [
+    let files: [&[u8]; 5] = [
         SAMPLES,
         b"t,ShedLoadP,LoadP,PvAvailP\n0,1.5,20,3.25\n0,0,0,0\n7,0,0.001,050000",
         b"t,LoadP,PvAvailP,ShedLoadP\n0,1,1,2\n",
+        b"t,ShedLoadP,LoadP,PvAvailP\n0,1.5,20,3.25\n0,0,0,0\n7,0,0.001,050000\n8,1,0,0\n9,1,1,1",
         b"",
     ];
     let mut cases = files.map(hex::write).join("\n");
@@ -120,13 +121,20 @@ fn sheets_are_answered_with_their_rows() {
     let expected =
         "accepted 4 0:40000:10000:0 1:75000:10000:5000 2:75000:10000:5000 3:30000:40000:5000
 accepted 2 0:20000:3250:1500 7:1:50000000:0
-refused,20,2
-refused,16,1
+refused,20,2 0
+refused,20,5 2 0:20000:3250:1500 7:1:50000000:0
+refused,16,1 0
 malformed
 ";
     assert_eq!(
         fed(reference, &["batch", "sheets"], cases.as_bytes()),
         expected
+    );
+    // The kind `samples` has the refusal alone.
+    let checked = "accepted\naccepted\nrefused,20,2\nrefused,20,5\nrefused,16,1\nmalformed\n";
+    assert_eq!(
+        fed(reference, &["batch", "samples"], cases.as_bytes()),
+        checked
     );
 }
 

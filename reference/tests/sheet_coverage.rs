@@ -7,23 +7,20 @@ use std::sync::OnceLock;
 use reference::generator::random::Random;
 use reference::generator::varied_sheets::{class, made, Class, Made, CYCLE, SHARES};
 use reference::generator::{case, write_cases};
-use reference::refusal::Refusal;
-use reference::samples::{self, Sample};
+use reference::samples::{self, Reading};
 use reference::{batch::Kind, hex};
 
 const CASES: u64 = 20_000;
 
-type Answer = Result<Vec<Sample>, Refusal>;
-
 /// Every file with its class and the answer that it gets; made once for all tests.
-fn for_each_file(mut look: impl FnMut(Class, &Made, &Answer)) {
-    static FILES: OnceLock<Vec<(Class, Made, Answer)>> = OnceLock::new();
+fn for_each_file(mut look: impl FnMut(Class, &Made, &Reading)) {
+    static FILES: OnceLock<Vec<(Class, Made, Reading)>> = OnceLock::new();
     let files = FILES.get_or_init(|| {
         let mut random = Random::from_seed(20_001);
         let file = |before| {
             let class = class(before);
             let made = made(&mut random, class);
-            let answer = samples::read(&made.bytes);
+            let answer = samples::read_lines(&made.bytes);
             (class, made, answer)
         };
         (0..CASES).map(file).collect()
@@ -102,9 +99,9 @@ fn files_are_short_and_long() {
     let mut events = Events::default();
     for_each_file(|class, made, answer| {
         let (bytes, lines) = (made.bytes.len(), lines(&made.bytes).len());
-        let answered = match answer {
-            Ok(_) => "accepted",
-            Err(_) => "refused",
+        let answered = match answer.refusal {
+            None => "accepted",
+            Some(_) => "refused",
         };
         let mut note = |of: Class, size: &str, is_so: bool| {
             let happened = |wanted| class == of && answered == wanted && is_so;
@@ -125,10 +122,17 @@ fn files_are_short_and_long() {
         note(Class::Past4096, "over 8,100 bytes", bytes > 8_100);
         note(Class::Past512, "over 512 bytes", bytes > 512);
         note(Class::Past512, "over 1,500 bytes", bytes > 1_500);
+        note(
+            Class::Plain,
+            "four to seven lines",
+            (4..=7).contains(&lines),
+        );
+        note(Class::Plain, "fifteen lines or more", lines >= 15);
         note(Class::Small, "two lines", lines == 2);
         note(Class::Small, "ten lines or more", lines >= 10);
-        events.note("refused, one line", lines == 1 && answer.is_err());
-        events.note("refused, no byte", bytes == 0 && answer.is_err());
+        let refused = answer.refusal.is_some();
+        events.note("refused, one line", lines == 1 && refused);
+        events.note("refused, no byte", bytes == 0 && refused);
     });
     events.check(3);
 }
@@ -144,7 +148,7 @@ fn lines_end_at_multiples_and_beside_them() {
             Class::Past65536 => (65_536, false),
             _ => return,
         };
-        let (file, good) = (&made.bytes, answer.is_ok());
+        let (file, good) = (&made.bytes, answer.refusal.is_none());
         for end in length - 3..=length + 3 {
             let ends = file.get(end - 1) == Some(&b'\n');
             let beside = if each_byte { end } else { length };
@@ -168,7 +172,7 @@ fn lines_end_at_multiples_and_beside_them() {
         // Whether the refused line is the one that has the multiple's first byte.
         let first_byte_in = file.iter().take(length).filter(|byte| **byte == b'\n');
         let line = first_byte_in.count() as u64 + 1;
-        let refused_there = matches!(answer, Err(refusal) if refusal.place == line);
+        let refused_there = answer.refusal.is_some_and(|refusal| refusal.place == line);
         events.note(format!("refused, the line at {length}"), refused_there);
     });
     events.check(2);
@@ -178,7 +182,7 @@ fn lines_end_at_multiples_and_beside_them() {
 fn lines_are_as_long_as_a_line_may_be_and_longer() {
     let mut events = Events::default();
     for_each_file(|class, made, answer| {
-        let Err(refusal) = answer else {
+        let Some(refusal) = answer.refusal else {
             assert_ne!(class, Class::LongLine);
             return;
         };
@@ -218,14 +222,16 @@ fn lines_are_as_long_as_a_line_may_be_and_longer() {
 fn lines_end_in_lf_cr_lf_either_or_neither() {
     let mut events = Events::default();
     for_each_file(|class, made, answer| {
-        let Ok(accepted) = answer else { return };
+        if answer.refusal.is_some() {
+            return;
+        }
         let lines = lines(&made.bytes);
         let ended = match made.bytes.ends_with(b"\n") {
             true => lines.as_slice(),
             false => &lines[..lines.len() - 1],
         };
         let crs = ended.iter().filter(|line| line.ends_with(b"\r")).count();
-        let skipped = lines.len() - 1 - accepted.len();
+        let skipped = lines.len() - 1 - answer.rows.len();
         events.note(format!("{class:?}, LF"), crs == 0);
         events.note(format!("{class:?}, CR LF"), crs == ended.len());
         events.note(format!("{class:?}, either"), crs > 0 && crs < ended.len());
@@ -242,7 +248,9 @@ fn lines_end_in_lf_cr_lf_either_or_neither() {
 fn refusals_are_at_every_kind_of_line() {
     let mut events = Events::default();
     for_each_file(|_, made, answer| {
-        let Err(refusal) = answer else { return };
+        let Some(refusal) = answer.refusal else {
+            return;
+        };
         let (number, place) = (refusal.number, refusal.place);
         let last = lines(&made.bytes).len() as u64;
         for row_number in [11, 17, 18, 19, 20] {
@@ -279,4 +287,126 @@ fn refusals_are_at_every_kind_of_line() {
         }
     });
     events.check(3);
+}
+
+/// The times of good rows.
+fn times(rows: &[&[u8]]) -> Vec<u64> {
+    let time = |row: &&[u8]| {
+        let digits = row.split(|byte| *byte == b',').next().expect("a cell");
+        let text = std::str::from_utf8(digits).expect("digits");
+        text.parse().expect("a time")
+    };
+    rows.iter().map(time).collect()
+}
+
+#[test]
+fn rows_stand_before_the_refused_line() {
+    let mut events = Events::default();
+    for_each_file(|_, made, answer| {
+        let Some(refusal) = answer.refusal else {
+            return;
+        };
+        let rows = answer.rows.len();
+        if refusal.place <= 2 {
+            assert_eq!(rows, 0);
+            return;
+        }
+        let place = refusal.place as usize;
+        let lines = lines(&made.bytes);
+        let times = times(&lines[1..place - 1]);
+        let skipped = times.len() - rows;
+        // A row that is skipped, and later one that is not.
+        let last = answer.rows.last().map(|row| row.time);
+        let first_of_last = times.iter().position(|time| Some(*time) == last);
+        let between = first_of_last.is_some_and(|index| index + 1 > rows);
+        let ended = made.bytes.ends_with(b"\n");
+        let at = match place == lines.len() {
+            false => "a middle line",
+            true if ended => "the last line",
+            true => "the last line, without LF",
+        };
+        for number in [11, 17, 18, 19, 20] {
+            for wanted in [
+                "a middle line",
+                "the last line",
+                "the last line, without LF",
+            ] {
+                let mut note = |has: &str, is_so: bool| {
+                    let happened = is_so && number == refusal.number && wanted == at;
+                    events.note(format!("{number} at {wanted}, {has}"), happened);
+                };
+                note("one row before", rows == 1);
+                note("two rows or more, none skipped", rows >= 2 && skipped == 0);
+                note("five rows or more, none skipped", rows >= 5 && skipped == 0);
+                note(
+                    "three rows or more, one skipped between",
+                    rows >= 3 && between,
+                );
+                note("over twenty-four rows", rows > 24);
+            }
+        }
+    });
+    assert_eq!(events.0.len(), 5 * 3 * 5);
+    events.check(5);
+}
+
+/// Whether a row is of the plain form, and whether it has a point in it.
+fn plain(row: &[u8]) -> Option<bool> {
+    let cells: Vec<&[u8]> = row.split(|byte| *byte == b',').collect();
+    let digits = |text: &[u8]| !text.is_empty() && text.iter().all(u8::is_ascii_digit);
+    let whole = |text: &[u8]| digits(text) && (text.len() == 1 || text[0] != b'0');
+    let decimals = |text: &[u8]| digits(text) && text.len() <= 3 && !text.ends_with(b"0");
+    let power = |cell: &&[u8]| match cell.iter().position(|byte| *byte == b'.') {
+        None => whole(cell),
+        Some(at) => whole(&cell[..at]) && decimals(&cell[at + 1..]),
+    };
+    let good = cells.len() == 4 && whole(cells[0]) && cells[1..].iter().all(power);
+    good.then(|| row.contains(&b'.'))
+}
+
+#[test]
+fn plain_sheets_have_plain_rows() {
+    let mut events = Events::default();
+    for_each_file(|class, made, answer| {
+        let lines = lines(&made.bytes);
+        let known = made.answer.is_some();
+        let place = answer.refusal.map(|refusal| refusal.place as usize);
+        // Heading faults and 22 leave no row to look at.
+        if class != Class::Plain || !known || place.is_some_and(|place| place <= 2) {
+            return;
+        }
+        let refused = if place.is_some() {
+            "refused"
+        } else {
+            "accepted"
+        };
+        let rows = &lines[1..place.unwrap_or(lines.len() + 1) - 1];
+        let without_cr = |row: &&[u8]| plain(row.strip_suffix(b"\r").unwrap_or(row));
+        let points: Option<Vec<bool>> = rows.iter().map(without_cr).collect();
+        let points = points.expect("plain rows").contains(&true);
+        let ended = made.bytes.ends_with(b"\n");
+        // Of these rows the last of an accepted file may have no ending.
+        let endings = rows.len() - usize::from(place.is_none() && !ended);
+        let crs = rows.iter().filter(|row| row.ends_with(b"\r")).count();
+        let ending = match crs {
+            0 => "LF",
+            _ if crs == endings => "CR LF",
+            _ => "either",
+        };
+        for verdict in ["accepted", "refused"] {
+            for wanted in ["LF", "CR LF", "either"] {
+                for (has_points, has_lf) in
+                    [(false, false), (false, true), (true, false), (true, true)]
+                {
+                    let happened = (refused, ending) == (verdict, wanted)
+                        && (points, ended) == (has_points, has_lf);
+                    let event =
+                        format!("{verdict}, {wanted}, points {has_points}, a last LF {has_lf}");
+                    events.note(event, happened && rows.len() >= 3);
+                }
+            }
+        }
+    });
+    assert_eq!(events.0.len(), 2 * 3 * 4);
+    events.check(10);
 }

@@ -30,7 +30,10 @@ typedef struct ChunkedRow {
 
 ChunkedAnswer chunked_check(const uint8_t *samples, size_t length, uint64_t size);
 
-/* The row with an index, counted from 0 over the rows that are not skipped. Asked of accepted files only. */
+/*
+ * The row with an index, counted from 0 over the rows that are not skipped. A refused file has the rows of the lines before the
+ * refused one.
+ */
 ChunkedRow chunked_rows(const uint8_t *samples, size_t length, uint64_t size, uint64_t row);
 
 #endif

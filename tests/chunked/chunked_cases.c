@@ -2,9 +2,13 @@
  * chunked_cases ROWS BYTES SIZE..: feeds sample files to the streamed reader in chunks of each size.
  *
  * Cases are on standard input, one a line, the file in hex, as the reference's `batch sheets` reads them (reference/README.md). Each
- * is answered by one line for each size, in the order of the sizes: `refused,n,p`, or `accepted N LAST` with how many rows were
- * taken and the time of the last. Where the file has at most ROWS rows, and rows times its bytes are at most BYTES, all its rows
- * follow as `t:load:solar:sheddable`, each pulled out of the chunks by itself, from the file's beginning.
+ * is answered by one line for each size, in the order of the sizes.
+ * `accepted N LAST` has how many rows were taken and the time of the last. Where the file has at most ROWS rows, and rows times its
+ * bytes are at most BYTES, all its rows follow as `t:load:solar:sheddable`, each pulled out of the chunks by itself, from the file's
+ * beginning.
+ * `refused,n,p` is all where the file has more than BYTES bytes. Else rows are pulled one after the other up to the first that is not
+ * found, at most ROWS + 1 of them, and so many that pulls times the file's bytes are at most BYTES. Where one was not found, ` N`
+ * follows with how many were, else ` many`; then the rows that were.
  * The file is lent read-only before a page that may not be touched. It is then lent once more after such a page, and asked about at
  * one of the sizes, which the cases take in turn. Exit status 1 where that is answered otherwise or a call touches what it may not.
  */
@@ -20,7 +24,7 @@
 #include "chunked.h"
 #include "guarded.h"
 
-enum { MOST_SIZES = 32 };
+enum { MOST_SIZES = 512, MOST_PULLS = 64 };
 
 _Static_assert(sizeof(ChunkedAnswer) == 32, "the check's answer has four numbers of 64 bits");
 _Static_assert(sizeof(ChunkedRow) == 40, "a row has five numbers of 64 bits");
@@ -47,20 +51,72 @@ static void note(const Fed *fed, const char *call)
     guarded_note(name, fed->side, call);
 }
 
-/* Writes every row, or what breaks the header's promises as what it is, so that the comparison finds it. */
+/* Whether a row is what the header promises: one that was found, or zeros alone. */
+static bool as_promised(const ChunkedRow *row)
+{
+    return row->found == 1 || (row->found | row->at | row->load | row->solar | row->sheddable) == 0;
+}
+
+static void write_row(FILE *out, const ChunkedRow *row)
+{
+    fprintf(out, " %" PRIu64 ":%" PRIu64 ":%" PRIu64 ":%" PRIu64, row->at, row->load, row->solar, row->sheddable);
+}
+
+/* What breaks the header's promises is written as what it is, so that the comparison finds it. */
+static void write_broken(FILE *out, uint64_t index, const ChunkedRow *row)
+{
+    fprintf(out, " broken:%" PRIu64 ":%" PRIu64, index, row->found);
+}
+
+/* Writes every row of an accepted file. */
 static void write_rows(FILE *out, const Fed *fed, uint64_t rows)
 {
     note(fed, "chunked_rows");
     for (uint64_t index = 0; index <= rows; index++) {
         ChunkedRow row = chunked_rows(fed->samples, fed->length, fed->size, index);
         bool past = index == rows;
-        bool zeros = (row.at | row.load | row.solar | row.sheddable) == 0;
-        if (row.found != (past ? 0 : 1) || (past && !zeros)) {
-            fprintf(out, " broken:%" PRIu64 ":%" PRIu64, index, row.found);
+        if (!as_promised(&row) || (row.found == 1) == past) {
+            write_broken(out, index, &row);
         }
         if (!past) {
-            fprintf(out, " %" PRIu64 ":%" PRIu64 ":%" PRIu64 ":%" PRIu64, row.at, row.load, row.solar, row.sheddable);
+            write_row(out, &row);
         }
+    }
+}
+
+/* How many rows of a refused file are pulled at most. */
+static uint64_t most_pulls(size_t length)
+{
+    uint64_t allowed = length == 0 ? UINT64_MAX : most_bytes / length;
+    return allowed <= most_rows ? allowed : most_rows + 1;
+}
+
+/* Writes how many rows a refused file has before the refused line, and those that were pulled. */
+static void write_rows_before(FILE *out, const Fed *fed)
+{
+    ChunkedRow rows[MOST_PULLS];
+    uint64_t pulls = most_pulls(fed->length);
+    uint64_t found = 0;
+    if (pulls == 0) {
+        return;
+    }
+    note(fed, "chunked_rows");
+    for (; found < pulls; found++) {
+        rows[found] = chunked_rows(fed->samples, fed->length, fed->size, found);
+        if (rows[found].found != 1) {
+            break;
+        }
+    }
+    if (found == pulls) {
+        fprintf(out, " many");
+    } else {
+        fprintf(out, " %" PRIu64, found);
+    }
+    for (uint64_t index = 0; index < found; index++) {
+        write_row(out, &rows[index]);
+    }
+    if (found < pulls && !as_promised(&rows[found])) {
+        write_broken(out, found, &rows[found]);
     }
 }
 
@@ -74,6 +130,7 @@ static void write_answer(FILE *out, const Fed *fed)
         fprintf(out, "broken,%" PRIu64 ",%" PRIu64 ",%" PRIu64 ",%" PRIu64, answer.number, answer.place, answer.rows, answer.last);
     } else if (!accepted) {
         fprintf(out, "refused,%" PRIu64 ",%" PRIu64, answer.number, answer.place);
+        write_rows_before(out, fed);
     } else {
         fprintf(out, "accepted %" PRIu64 " %" PRIu64, answer.rows, answer.last);
         /* The bound on rows comes first, so that the product is small. */
@@ -158,8 +215,9 @@ int main(int count, char **arguments)
             sizes[size_count++] = number;
         }
     }
-    if (!read) {
-        fprintf(stderr, "usage: chunked_cases ROWS BYTES SIZE..   (up to %d sizes; cases on standard input)\n", MOST_SIZES);
+    if (!read || most_rows >= MOST_PULLS) {
+        fprintf(stderr, "usage: chunked_cases ROWS BYTES SIZE..   (under %d rows, up to %d sizes; cases on standard input)\n", MOST_PULLS,
+                MOST_SIZES);
         return NOT_READ;
     }
     guarded_start();

@@ -2,6 +2,7 @@
 //! to give: skipped ones are left out.
 
 use super::exact_rows::{self, LONGEST};
+use super::plain_rows::{self, Numbers};
 use super::random::Random;
 use super::sheet::{Sheet, SheetLine};
 use crate::samples::Sample;
@@ -28,8 +29,8 @@ pub struct Style {
 /// A file and where it has got to.
 pub struct GrowingSheet {
     pub sheet: Sheet,
-    /// The rows that are accepted.
-    pub accepted: Vec<Sample>,
+    /// The rows that are accepted, each with the index of its line.
+    accepted: Vec<(usize, Sample)>,
     /// Indexes of the lines that `grow_to` ended where it was asked to.
     pub placed: Vec<usize>,
     style: Style,
@@ -65,6 +66,27 @@ impl GrowingSheet {
         let ending = random.pick(growing.endings);
         growing.add_line(headings, ending);
         growing
+    }
+
+    /// The rows that are accepted on the lines before one of an index.
+    pub fn rows_before(&self, index: usize) -> Vec<Sample> {
+        let before = self.accepted.iter().filter(|(line, _)| *line < index);
+        before.map(|(_, sample)| *sample).collect()
+    }
+
+    /// The rows that are accepted on all lines.
+    pub fn rows(&self) -> Vec<Sample> {
+        self.rows_before(self.sheet.lines.len())
+    }
+
+    /// Some more plain rows; the style has only their times.
+    pub fn add_plain_rows(&mut self, random: &mut Random, rows: u64, numbers: Numbers) {
+        for _ in 0..rows {
+            let time = self.next_time(random);
+            let (sample, cells) = plain_rows::row(random, time, numbers, self.order);
+            let ending = random.pick(self.endings);
+            self.add_sample(sample, cells, ending);
+        }
     }
 
     /// Some more rows of the file's style.
@@ -118,10 +140,16 @@ impl GrowingSheet {
         ending: &'static [u8],
     ) {
         let (sample, cells) = exact_rows::row(random, time, length, self.order);
+        self.add_sample(sample, cells, ending);
+    }
+
+    fn add_sample(&mut self, sample: Sample, cells: Vec<Vec<u8>>, ending: &'static [u8]) {
+        let index = self.sheet.lines.len();
         self.add_line(cells, ending);
         // "A later row whose time is not above the last accepted one is skipped".
-        if self.accepted.last().is_none_or(|last| last.time < time) {
-            self.accepted.push(sample);
+        let last = self.accepted.last();
+        if last.is_none_or(|(_, last)| last.time < sample.time) {
+            self.accepted.push((index, sample));
         }
     }
 
@@ -133,7 +161,7 @@ impl GrowingSheet {
 
     /// 0 for the first row; then a later time, or one that is not.
     fn next_time(&self, random: &mut Random) -> u64 {
-        let Some(last) = self.accepted.last() else {
+        let Some((_, last)) = self.accepted.last() else {
             return 0;
         };
         if random.chance(self.style.rise_percent) {

@@ -6,6 +6,7 @@ pub mod good_samples;
 pub mod good_stations;
 pub mod growing_sheet;
 pub mod judged_runs;
+pub mod plain_rows;
 pub mod random;
 pub mod record_damage;
 pub mod records;

@@ -3,11 +3,12 @@
 //! can be read in a short time.
 
 use super::growing_sheet::{GrowingSheet, Style};
+use super::plain_rows::Numbers;
 use super::random::Random;
 use super::sheet_faults;
 use super::{exact_rows, samples_file};
 use crate::refusal::Refusal;
-use crate::samples::Sample;
+use crate::samples::Reading;
 
 /// The classes of sizes.
 #[derive(Clone, Copy, Debug, PartialEq, Eq, PartialOrd, Ord)]
@@ -24,19 +25,23 @@ pub enum Class {
     Past512,
     /// With a line of about 512 bytes; no such line is good.
     LongLine,
+    /// Some plain rows as a logger writes them; of a refused file, mostly several
+    /// before the refused line.
+    Plain,
     /// A heading line and some rows.
     Small,
 }
 
 /// How many of each `CYCLE` cases in a row a class has.
-pub const SHARES: [(Class, u64); 7] = [
+pub const SHARES: [(Class, u64); 8] = [
     (Class::Past65536, 2),
     (Class::TenThousandLines, 1),
     (Class::ManyLines, 6),
     (Class::Past4096, 16),
     (Class::Past512, 60),
     (Class::LongLine, 60),
-    (Class::Small, 355),
+    (Class::Plain, 80),
+    (Class::Small, 275),
 ];
 
 /// The sum of the shares.
@@ -47,10 +52,35 @@ pub const CYCLE: u64 = 500;
 const STRIDE: u64 = 309;
 
 /// A file, and the answer that it was made for where that is known: the accepted
-/// rows or the refusal.
+/// rows, or the refusal and the rows before it.
 pub struct Made {
     pub bytes: Vec<u8>,
-    pub answer: Option<Result<Vec<Sample>, Refusal>>,
+    pub answer: Option<Reading>,
+}
+
+impl Made {
+    /// A file that is accepted as it is.
+    fn good(growing: &GrowingSheet) -> Made {
+        Made {
+            bytes: growing.sheet.bytes(),
+            answer: Some(Reading {
+                rows: growing.rows(),
+                refusal: None,
+            }),
+        }
+    }
+
+    /// A file with a fault in it. Without a place no line is before the refusal.
+    fn refused(growing: &GrowingSheet, refusal: Refusal) -> Made {
+        let index = (refusal.place as usize).saturating_sub(1);
+        Made {
+            bytes: growing.sheet.bytes(),
+            answer: Some(Reading {
+                rows: growing.rows_before(index),
+                refusal: Some(refusal),
+            }),
+        }
+    }
 }
 
 /// The file of the case that has so many cases before it.
@@ -95,6 +125,7 @@ pub fn made(random: &mut Random, class: Class) -> Made {
             past(random, 512, pieces)
         }
         Class::LongLine => long_line(random),
+        Class::Plain => plain(random),
         Class::Small => Made {
             bytes: samples_file(random),
             answer: None,
@@ -150,29 +181,52 @@ fn short_rows(random: &mut Random, rows: u64) -> Made {
     good_or_damaged(random, growing, 4_096)
 }
 
-/// A file as it is, or with a fault, or with another byte somewhere.
-fn good_or_damaged(random: &mut Random, growing: GrowingSheet, length: usize) -> Made {
+/// A file of some plain rows, with or without CR, as it is, with another byte
+/// somewhere, or with a fault: in the last line, which may have no LF, or in one
+/// before it with rows on both sides.
+fn plain(random: &mut Random) -> Made {
+    let style = Style {
+        longest_row: exact_rows::LONGEST,
+        rise_percent: random.pick([50, 85, 100, 100]),
+        longest_step: random.pick([1, 10, 3_600, 20_000_000]),
+    };
+    let mut growing = GrowingSheet::new(random, style);
+    let numbers = Numbers {
+        kilowatts: random.pick([9, 99, 999, 50_000]),
+        decimals: random.pick([0, 0, 1, 3]),
+    };
+    let rows = random.between(3, 16);
+    growing.add_plain_rows(random, rows, numbers);
+    if random.chance(50) {
+        growing.end_without_lf();
+    }
+    let last = growing.sheet.lines.len() - 1;
     match random.between(0, 99) {
-        0..=49 => Made {
-            bytes: growing.sheet.bytes(),
-            answer: Some(Ok(growing.accepted)),
-        },
-        50..=91 => faulty(random, growing),
-        _ => {
-            let mut bytes = growing.sheet.bytes();
-            change_byte(random, &mut bytes, length);
-            Made {
-                bytes,
-                answer: None,
-            }
+        0..=39 => Made::good(&growing),
+        40..=64 => faulty(random, growing, last),
+        65..=89 => {
+            let index = random.between(2, last as u64 - 1) as usize;
+            faulty(random, growing, index)
         }
+        _ => changed(random, &growing, 64),
     }
 }
 
-/// A file with one fault, mostly in a row so that all lines before it are read;
-/// now and then with another fault in a later line, which is not met.
-fn faulty(random: &mut Random, mut growing: GrowingSheet) -> Made {
-    let index = row_index(random, &growing);
+/// A file as it is, or with a fault, or with another byte somewhere.
+fn good_or_damaged(random: &mut Random, growing: GrowingSheet, length: usize) -> Made {
+    match random.between(0, 99) {
+        0..=49 => Made::good(&growing),
+        50..=91 => {
+            let index = row_index(random, &growing);
+            faulty(random, growing, index)
+        }
+        _ => changed(random, &growing, length),
+    }
+}
+
+/// A file with one fault, mostly in the row of an index so that all lines before it
+/// are read; now and then with another fault in a later line, which is not met.
+fn faulty(random: &mut Random, mut growing: GrowingSheet, index: usize) -> Made {
     let lines = growing.sheet.lines.len();
     if index + 1 < lines && random.chance(30) {
         let later = index + 1 + random.index(lines - index - 1);
@@ -184,10 +238,7 @@ fn faulty(random: &mut Random, mut growing: GrowingSheet) -> Made {
         false => random.pick([12, 13, 14, 15, 16, 21, 22]),
     };
     let refusal = sheet_faults::put(random, &mut growing.sheet, number, index);
-    Made {
-        bytes: growing.sheet.bytes(),
-        answer: Some(Err(refusal)),
-    }
+    Made::refused(&growing, refusal)
 }
 
 /// The index of a row's line: one that was placed or the one after it, the last,
@@ -200,14 +251,15 @@ fn row_index(random: &mut Random, growing: &GrowingSheet) -> usize {
             let index = placed[random.index(placed.len())];
             (index + random.index(2)).min(last)
         }
-        4 | 5 => last,
+        0 | 1 | 4 | 5 => last,
         6 => 1,
         _ => 1 + random.index(last),
     }
 }
 
-/// Puts another byte in, or in place of one, anywhere or beside a multiple.
-fn change_byte(random: &mut Random, bytes: &mut Vec<u8>, length: usize) {
+/// A file with another byte put in, or in place of one, anywhere or beside a length.
+fn changed(random: &mut Random, growing: &GrowingSheet, length: usize) -> Made {
+    let mut bytes = growing.sheet.bytes();
     let anywhere = random.index(bytes.len());
     let beside = (length + 2 - random.index(5)).min(bytes.len() - 1);
     let at = random.pick([anywhere, beside]);
@@ -215,6 +267,10 @@ fn change_byte(random: &mut Random, bytes: &mut Vec<u8>, length: usize) {
     match random.chance(50) {
         true => bytes[at] = byte,
         false => bytes.insert(at, byte),
+    }
+    Made {
+        bytes,
+        answer: None,
     }
 }
 
@@ -243,8 +299,5 @@ fn long_line(random: &mut Random) -> Made {
         false => random.pick([510, 511, 511, 512, 512, 512, 513, 513, 513, 514, 1_024]),
     };
     let refusal = sheet_faults::lengthen(random, &mut growing.sheet, index, whole);
-    Made {
-        bytes: growing.sheet.bytes(),
-        answer: Some(Err(refusal)),
-    }
+    Made::refused(&growing, refusal)
 }
