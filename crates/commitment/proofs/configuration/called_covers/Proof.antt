@@ -1,5 +1,4 @@
 -- `commitment::configuration::called_covers` meets its contract. Assumes nothing.
-use mathlib.Core.Path.{_≡_}
 use native.Mathlib.Omega.{arith}
 use denote.Ref.{now}
 use Rattle.rules.specs.Configuration.{maskCalled}

@@ -1,7 +1,7 @@
 -- `commitment::configuration::chosen` meets its contract: the three answers in the definition's order, all with the one mask of barred
 -- sets. Assumes nothing.
 use borrow.Author.Needs.{needs}
-use mathlib.Core.Path.{_≡_, _∙_}
+use mathlib.Core.Path.{_≡_}
 use denote.Ref.{now}
 use lib.ListN.{length, length-map}
 use Rattle.commitment.proofs.Called.{kept, first-called, greatest-called}

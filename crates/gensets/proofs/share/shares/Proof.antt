@@ -1,6 +1,6 @@
 -- `gensets::share::shares` meets its contract. Assumes nothing.
 use borrow.Author.Needs.{needs}
-use mathlib.Core.Path.{_≡_, sym, _∙_}
+use mathlib.Core.Path.{_≡_}
 use native.Mathlib.Omega.{arith}
 use Rattle.rules.specs.Share.{capacity}
 use Rattle.gensets.proofs.SharesCases.{no-power, out-of-range, over-capacity, shared}
