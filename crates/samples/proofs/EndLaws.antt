@@ -65,6 +65,19 @@ source-accepted s rest h = go (sourceRefused s) refl
     go true e = never (sym (nothing-left s rest e .1) ∙ h)
     go false e = refl
 
+-- one that is refused before the file's end has to read further
+pub refused-unread : (s : InputSource) → sourceRefused s ≡ true → isEnded (s .ahead) ≡ false → s .ahead ≡ Ahead.Unread
+unfolding sourceRefused
+refused-unread s h e = go (s .ahead) h e
+  where
+    go : (ahead : Ahead) → refusedAhead ahead (isRefused (s .reader .stage)) ≡ true → isEnded ahead ≡ false → ahead ≡ Ahead.Unread
+    go Ahead.Unread h e = refl
+    go (Ahead.Next x) h e = never h
+    go (Ahead.LastTwo x y) h e = never h
+    go (Ahead.Last x) h e = never h
+    go Ahead.Ended h e = never h
+    go (Ahead.Refused r) h e = never (sym e)
+
 -- and that no refusal is ahead of one that is not
 pub no-refusal : (s : InputSource) → sourceRefused s ≡ false → isRefusal (s .ahead) ≡ false
 unfolding sourceRefused

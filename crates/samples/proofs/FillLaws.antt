@@ -24,7 +24,7 @@ use Rattle.samples.specs.Streamed.{yetToCome}
 use Rattle.samples.specs.Held.{rowsAhead, readerAt, sourceRows, sourceRefused, isRefusal, heldFrom, latest, inputsIn, AtSecond, ReachedRight, HeldOn, placesOf, KeptFrom, FilledRight, Filling}
 use Rattle.samples.proofs.LineLaws.{drop-least}
 use Rattle.samples.proofs.HeldLaws.{latest-none, latest-of, held-next}
-use Rattle.samples.proofs.EndLaws.{nothing-left, for-good, no-refusal}
+use Rattle.samples.proofs.EndLaws.{nothing-left, for-good, no-refusal, refused-unread}
 
 -- ---- the slices
 
@@ -121,6 +121,7 @@ module _ (s : InputSource) (second : ℕ) (chunk : List ℕ) (at : ℕ) (loads�
       onward = g .onward;
       most = g .most;
       short = λ k. absurd (omega arith);
+      waits = λ k. absurd (omega arith);
       all = λ e f. omega (arith, g .most);
       before = seconds-before live;
       refused = λ rest dead. all-before rest (stays-refused (r .source) (r .next) rest (g .inputs rest .verdict) dead) (decLt 0 (r .seconds));
@@ -171,6 +172,7 @@ module _ (s : InputSource) (second : ℕ) (chunk : List ℕ) (at : ℕ) (loads�
         onward = omega arith;
         most = g .most;
         short = λ k. refl;
+        waits = λ k e. right .unread u;
         all = λ e f. never (sym (right .wanted u) ∙ g .ended ∙ e);
         before = seconds-before live;
         refused = λ rest dead. all-told rest dead (stays-refused (keptAs m) (length chunk) rest (ap (λ (a : RowsRead). a .verdict) (kept-on rest) ∙ held rest .verdict) dead) (decLt 0 (r .seconds));
@@ -264,6 +266,7 @@ module _ (s : InputSource) (second : ℕ) (chunk : List ℕ) (at : ℕ) (loads�
     onward = omega arith;
     most = omega arith;
     short = λ k. refl;
+    waits = λ k e. refused-unread s dead e;
     all = λ e f. never (sym f ∙ dead);
     before = λ rest h. absurd (omega arith);
     refused = λ rest e. let z : latest (before rest .rows) ≡ 0 = ap latest (nothing-left s (drop at chunk ++ rest) dead .0) ∙ latest-none in omega (arith, z);

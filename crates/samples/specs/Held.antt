@@ -175,6 +175,8 @@ pub record FilledRight (s : InputSource) (second : ℕ) (chunk : List ℕ) (at :
   pub most : r .seconds ≤ placesOf loads₀ solars₀ sheddables₀
   -- only the end of the chunk leaves places empty
   pub short : r .seconds < placesOf loads₀ solars₀ sheddables₀ → r .next ≡ length chunk
+  -- where every row that is known has come into force
+  pub waits : r .seconds < placesOf loads₀ solars₀ sheddables₀ → sourceEnded s ≡ false → r .source .ahead ≡ Ahead.Unread
   -- and where the file has ended, only a refusal
   pub all : sourceEnded s ≡ true → sourceRefused s ≡ false → r .seconds ≡ placesOf loads₀ solars₀ sheddables₀
   -- no second is told that no row before a refusal follows
