@@ -17,8 +17,7 @@ use explain::titles::say_station_title;
 use files::source::Opened;
 use files::source::Program;
 use files::source::Which;
-use files::source::is_named;
-use files::source::open_named;
+use files::source::open_argument;
 use files::source::say_unread;
 use files::start::Filled;
 use files::start::fill;
@@ -43,12 +42,8 @@ fn station_bytes(file: &mut [u8]) -> Filled
         failed: true,
     };
     let mut path = io::buffer();
-    let end = os::arg(1, &mut path);
-    if !is_named(Program::Check, Which::Station) {
-        return nothing;
-    }
-    let found = open_named(Program::Check, Which::Station, &path[..end]);
-    let Opened::At(fd) = found else {
+    let found = open_argument(Program::Check, Which::Station, 1, &mut path);
+    let Opened::At(fd, end) = found else {
         return nothing;
     };
     let got = fill(fd, file);

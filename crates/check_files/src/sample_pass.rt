@@ -1,5 +1,4 @@
 // The check of the sample file: one buffer, however long the file is.
-use files::progress::is_watched;
 use files::progress::say_read;
 use files::source::Program;
 use samples::check::SampleCheck;
@@ -15,7 +14,6 @@ pub(crate) struct Heard {
 
 // Reads to the end of the file. A line that is refused ends the reading, so that a line without end does too.
 pub(crate) fn hear(fd: i32, buf: &mut [u8]) -> Heard {
-    let watched = is_watched();
     let mut check = check();
     let mut bytes: u64 = 0;
     let mut turns = u64::MAX;
@@ -36,7 +34,7 @@ pub(crate) fn hear(fd: i32, buf: &mut [u8]) -> Heard {
                 failed: false,
             };
         }
-        bytes = say_read(Program::Check, watched, bytes, count);
+        bytes = say_read(Program::Check, bytes, count);
     }
     Heard {
         check,

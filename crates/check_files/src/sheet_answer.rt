@@ -15,8 +15,7 @@ use explain::titles::say_sheet_title;
 use files::source::Opened;
 use files::source::Program;
 use files::source::Which;
-use files::source::is_named;
-use files::source::open_named;
+use files::source::open_argument;
 use files::source::say_unread;
 use rules::answers::Refusal;
 use samples::check::Checked;
@@ -112,12 +111,8 @@ fn answer_open(fd: i32, station: &[u8], buf: &mut [u8]) -> bool {
 // Checks the sample file beside a station file that is in order. Nothing is answered where it cannot be opened or read.
 pub(crate) fn answer_sheet(station: &[u8], buf: &mut [u8]) {
     let mut path = io::buffer();
-    let end = os::arg(2, &mut path);
-    if !is_named(Program::Check, Which::Samples) {
-        return;
-    }
-    let found = open_named(Program::Check, Which::Samples, &path[..end]);
-    let Opened::At(fd) = found else {
+    let found = open_argument(Program::Check, Which::Samples, 2, &mut path);
+    let Opened::At(fd, end) = found else {
         return;
     };
     if !answer_open(fd, station, buf) {

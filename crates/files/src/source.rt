@@ -1,4 +1,7 @@
 // The two files by their names, and what to say where one cannot be opened or read.
+ghost use mathlib.Core.Path.{_≡_};
+ghost use lib.ListN.{length};
+ghost use Rattle.files.specs.Opening.{OpenedIn};
 use explain::plain_words::say;
 use explain::plain_words::show_path;
 
@@ -14,27 +17,28 @@ pub enum Which {
     Samples,
 }
 
-// A descriptor, or nothing where a message said why.
 pub enum Opened {
-    At(i32),
+    // the descriptor, and how many bytes of the lent buffer the path has
+    At(i32, usize),
+    // a message said why
     Nothing,
 }
 
-pub fn say_name(program: Program) {
+pub(crate) fn say_name(program: Program) {
     match program {
         Program::Check => say(b"check: "),
         Program::Run => say(b"run: "),
     }
 }
 
-pub fn say_call(program: Program) {
+fn say_call(program: Program) {
     match program {
         Program::Check => say(b"check STATION SAMPLES"),
         Program::Run => say(b"run STATION SAMPLES SECONDS"),
     }
 }
 
-pub fn say_which(which: Which) {
+fn say_which(which: Which) {
     match which {
         Which::Station => say(b"the station file "),
         Which::Samples => say(b"the sample file "),
@@ -83,21 +87,20 @@ pub fn say_unread(program: Program, which: Which, path: &[u8]) {
     );
 }
 
-// Opens the file at a path.
-pub fn open_named(program: Program, which: Which, path: &[u8]) -> Opened {
-    let fd = os::open_read(path);
-    if fd < 0 {
-        say_unopened(program, which, path);
+// Opens the file that an argument of the program names, and leaves its path in the lent buffer.
+pub fn open_argument(program: Program, which: Which, argument: usize, path: &mut [u8]) -> Opened
+    ensures { λ r. ⌜ OpenedIn r (now (path .exit)) × (length (now (path .exit)) ≡ length (now (path .entry))) ⌝ }
+{
+    let end = os::arg(argument, path);
+    // a path that is cut short would name another file
+    if os::errno() != 0 {
+        say_unnamed(program, which);
         return Opened::Nothing;
     }
-    Opened::At(fd)
-}
-
-// Whether the argument just asked for was whole; a path that is cut short would name another file.
-pub fn is_named(program: Program, which: Which) -> bool {
-    if os::errno() == 0 {
-        return true;
+    let fd = os::open_read(&path[..end]);
+    if fd < 0 {
+        say_unopened(program, which, &path[..end]);
+        return Opened::Nothing;
     }
-    say_unnamed(program, which);
-    false
+    Opened::At(fd, end)
 }

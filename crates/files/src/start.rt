@@ -1,6 +1,5 @@
 // The start of a file, as far as a buffer holds it.
-ghost use Prim.Native.Nat.{_≤_};
-ghost use lib.ListN.{length};
+ghost use Rattle.files.specs.Filling.{FilledTo};
 
 // How much of a buffer was filled from a file, and whether the last read failed.
 pub struct Filled {
@@ -8,9 +7,10 @@ pub struct Filled {
     pub failed: bool,
 }
 
-// Fills the buffer up to the end of the file; io::read_full would not tell a read that failed from the end.
+// Fills the buffer up to the end of the file; io::read_full would not tell a read that failed from the end. That the bytes are the
+// file's is the system's word, and no contract of the toolchain speaks of it.
 pub fn fill(fd: i32, buf: &mut [u8]) -> Filled
-    ensures { λ r. ⌜ r .size ≤ length (now (buf .exit)) ⌝ }
+    ensures { λ r. ⌜ FilledTo r (now (buf .entry)) (now (buf .exit)) ⌝ }
 {
     let mut size = 0;
     while size < buf.len() {

@@ -1,9 +1,10 @@
--- Laws of decimal numbers, of a text that grows in a buffer, of a row's line and its length, of the text in the buffer, and of the other lines.
+-- Laws of decimal numbers, of a text that grows in a buffer, of a row's line and its length, of the text in the buffer and its room, and of the other lines.
 pub mod Decimals
 pub mod LastDigits
 pub mod FourDigits
 pub mod Texts
 pub mod Lines
 pub mod RowInBuffer
+pub mod Room
 pub mod SetLine
 pub mod Lengths

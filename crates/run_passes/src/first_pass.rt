@@ -1,5 +1,4 @@
 // The first pass over the sample file: every line is checked, and the bytes are tallied for the second.
-use files::progress::is_watched;
 use files::progress::say_read;
 use files::source::Program;
 use intake::tally::Tally;
@@ -19,7 +18,6 @@ pub(crate) struct SamplesHeard {
 
 // Reads to the end of the file. A line that is refused ends the reading, so that a line without end does too.
 pub(crate) fn hear_samples(fd: i32, buf: &mut [u8]) -> SamplesHeard {
-    let watched = is_watched();
     let mut check = check();
     let mut tally = no_bytes();
     let mut bytes: u64 = 0;
@@ -44,7 +42,7 @@ pub(crate) fn hear_samples(fd: i32, buf: &mut [u8]) -> SamplesHeard {
             };
         }
         tally = tallied(tally, &buf[..count]);
-        bytes = say_read(Program::Run, watched, bytes, count);
+        bytes = say_read(Program::Run, bytes, count);
     }
     SamplesHeard {
         check,

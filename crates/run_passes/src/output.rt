@@ -1,6 +1,6 @@
 // The run's bytes, written to standard output as the core hands them over.
 use crate::progress::Progress;
-use crate::progress::say_worked;
+use crate::progress::progress_on;
 use explain::plain_words::say;
 use simulation::advance::advance;
 use simulation::state::Simulation;
@@ -63,7 +63,7 @@ fn call(before: Handed, chunk: &[u8], ended: bool, out: &mut [u8]) -> Handed {
     let simulation = turn.simulation;
     let size = turn.written;
     let wants = turn.wants;
-    let progress = say_worked(before.progress, simulation);
+    let progress = progress_on(before.progress, simulation);
     let taken = is_taken(out, size);
     let again = is_room(wants) & (0 < size);
     Handed {

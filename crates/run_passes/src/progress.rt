@@ -1,8 +1,8 @@
 // How far the seconds have come, for whoever watches a terminal.
 ghost use mathlib.Core.Path.{_≡_};
 ghost use Prim.Native.Nat.{_-_};
-use explain::plain_words::number;
-use explain::plain_words::say;
+use files::progress::say_worked;
+use files::source::Program;
 use simulation::state::Simulation;
 use simulation::state::seconds_left;
 
@@ -10,7 +10,6 @@ use simulation::state::seconds_left;
 const TOLD_EACH: u32 = 10_000_000;
 
 pub(crate) struct Progress {
-    watched: bool,
     // seconds of the whole run
     asked: u32,
     // seconds worked when this was last looked at
@@ -20,7 +19,6 @@ pub(crate) struct Progress {
 // Of a run that begins.
 pub(crate) fn progress_of(simulation: Simulation) -> Progress {
     Progress {
-        watched: files::progress::is_watched(),
         asked: seconds_left(simulation),
         done: 0,
     }
@@ -36,24 +34,11 @@ fn done_of(asked: u32, left: u32) -> u32
 }
 
 // Says how many seconds are worked where a further 10 million are full.
-pub(crate) fn say_worked(before: Progress, simulation: Simulation) -> Progress {
-    if !before.watched {
-        return before;
-    }
+pub(crate) fn progress_on(before: Progress, simulation: Simulation) -> Progress {
     let asked = before.asked;
     let done = done_of(asked, seconds_left(simulation));
-    let after = Progress {
-        watched: true,
-        asked,
-        done,
-    };
-    if done / TOLD_EACH <= before.done / TOLD_EACH {
-        return after;
+    if before.done / TOLD_EACH < done / TOLD_EACH {
+        say_worked(Program::Run, done, asked);
     }
-    say(b"run: ");
-    number(done as u64);
-    say(b" of ");
-    number(asked as u64);
-    say(b" seconds worked\n");
-    after
+    Progress { asked, done }
 }

@@ -11,8 +11,7 @@ use explain::plain_words::show_path;
 use files::source::Opened;
 use files::source::Program;
 use files::source::Which;
-use files::source::is_named;
-use files::source::open_named;
+use files::source::open_argument;
 use files::source::say_reason;
 use files::source::say_unread;
 use intake::station_bytes::StationBytes;
@@ -134,12 +133,8 @@ fn run_open(fd: i32, path: &[u8], file: StationBytes, buf: &mut [u8], out: &mut 
 // The run over the sample file of the second argument.
 pub(crate) fn run_samples(file: StationBytes, buf: &mut [u8], out: &mut [u8]) -> Answer {
     let mut path = io::buffer();
-    let end = os::arg(2, &mut path);
-    if !is_named(Program::Run, Which::Samples) {
-        return Answer::Nothing;
-    }
-    let found = open_named(Program::Run, Which::Samples, &path[..end]);
-    let Opened::At(fd) = found else {
+    let found = open_argument(Program::Run, Which::Samples, 2, &mut path);
+    let Opened::At(fd, end) = found else {
         return Answer::Nothing;
     };
     let answer = run_open(fd, &path[..end], file, buf, out);

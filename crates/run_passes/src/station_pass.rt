@@ -2,8 +2,7 @@
 use files::source::Opened;
 use files::source::Program;
 use files::source::Which;
-use files::source::is_named;
-use files::source::open_named;
+use files::source::open_argument;
 use files::source::say_unread;
 use intake::station_bytes::StationBytes;
 use intake::station_bytes::more_station;
@@ -55,12 +54,8 @@ pub(crate) fn hear_station(buf: &mut [u8]) -> StationHeard {
         failed: true,
     };
     let mut path = io::buffer();
-    let end = os::arg(1, &mut path);
-    if !is_named(Program::Run, Which::Station) {
-        return nothing;
-    }
-    let found = open_named(Program::Run, Which::Station, &path[..end]);
-    let Opened::At(fd) = found else {
+    let found = open_argument(Program::Run, Which::Station, 1, &mut path);
+    let Opened::At(fd, end) = found else {
         return nothing;
     };
     let heard = hear_open(fd, &path[..end], buf);

@@ -8,36 +8,13 @@ use lib.Dec.{leb}
 use lib.ListN.{length, take, drop, length-append, length-drop, take-append-drop}
 use Rattle.rules.specs.declared.answers.Outcome.{Outcome}
 use Rattle.rules.specs.declared.answers.Refusal.{Refusal}
-use Rattle.rules.specs.Answers.{Answer, accepted, refused, need, _>>_, refusalOf, outcomeOf}
 use Rattle.dispatch.proofs.Going.{rest-is, back-is}
-use Rattle.rows.specs.Written.{TextPut, textWritten, lengthOf, bufferWith}
+use Rattle.rows.specs.Written.{TextPut}
+use Rattle.rows.proofs.Room.{put-means, none-means}
 use Rattle.simulation.specs.declared.state.Turn.{Turn}
 use Rattle.simulation.specs.declared.state.Wants.{Wants}
 use Rattle.simulation.specs.Text.{lineOf}
 use Rattle.simulation.specs.Turns.{LineBy, LineMoved, withLine, waitingFor, putAt}
-
--- ---- what an answer says of the buffer's room
-
-pub record Put (text lent : List ℕ) (size : ℕ) (left : List ℕ) : Type 0 where
-  pub roomy : leb 256 (length lent) ≡ true
-  pub size-is : size ≡ length text
-  pub left-is : left ≡ text ++ drop (length text) lent
-
-put-by : (text lent : List ℕ) (size : ℕ) (left : List ℕ) (b : Bool) → leb 256 (length lent) ≡ b → accepted size ≡ lengthOf (need b 26 0 >> accepted text) → left ≡ bufferWith lent (need b 26 0 >> accepted text) → Put text lent size left
-put-by text lent size left true e a l = record { roomy = e; size-is = (cc); left-is = l }
-put-by text lent size left false e a l = absurd (let z : _≡_ {A = ℕ} 0 1 = cc in omega arith)
-
-pub put-means : (text lent : List ℕ) (answer : Outcome) (size : ℕ) (left : List ℕ) → answer ≡ Outcome.Row size → TextPut text lent answer left → Put text lent size left
-unfolding textWritten
-put-means text lent answer size left is p = put-by text lent size left (leb 256 (length lent)) refl (rw is at (p .answers)) (p .leaves)
-
-none-by : (text lent : List ℕ) (why : Refusal) (left : List ℕ) (b : Bool) → leb 256 (length lent) ≡ b → refusalOf why ≡ lengthOf (need b 26 0 >> accepted text) → left ≡ bufferWith lent (need b 26 0 >> accepted text) → (leb 256 (length lent) ≡ false) × (left ≡ lent)
-none-by text lent why left true e a l = absurd (let z : _≡_ {A = ℕ} 0 1 = cc in omega arith)
-none-by text lent why left false e a l = (e, l)
-
-pub none-means : (text lent : List ℕ) (answer : Outcome) (why : Refusal) (left : List ℕ) → answer ≡ Outcome.Refused why → TextPut text lent answer left → (leb 256 (length lent) ≡ false) × (left ≡ lent)
-unfolding textWritten
-none-means text lent answer why left is p = none-by text lent why left (leb 256 (length lent)) refl (rw is at (p .answers)) (p .leaves)
 
 -- a text that a part of a buffer took fits into it
 pub put-fits : (text lent left : List ℕ) → left ≡ text ++ drop (length text) lent → length left ≡ length lent → length text ≤ length lent

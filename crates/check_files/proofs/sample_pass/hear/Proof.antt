@@ -9,13 +9,10 @@ use Rattle.check_files.proofs.sample_pass.hear.Statement.{statement}
 use Rattle.check_files.proofs.sample_pass.hear.Tie as tie
 
 abbrev Inv-loop : tie.InvT-loop
-Inv-loop fd buf₀ watched check₀ bytes₀ turns₀ buf check bytes turns = length buf ≡ length buf₀
+Inv-loop fd buf₀ check₀ bytes₀ turns₀ buf check bytes turns = length buf ≡ length buf₀
 
 abbrev μ-loop : tie.MeasureT-loop
-μ-loop fd buf₀ watched check₀ bytes₀ turns₀ buf check bytes turns = turns
-
-is-watched-requires : tie.Need-is-watched-requires Inv-loop μ-loop
-is-watched-requires c κs = search needs
+μ-loop fd buf₀ check₀ bytes₀ turns₀ buf check bytes turns = turns
 
 check-requires : tie.Need-check-requires Inv-loop μ-loop
 check-requires c κs = search needs
@@ -77,7 +74,6 @@ hear-spec =
     (tie.spec
     Inv-loop
     μ-loop
-    is-watched-requires
     check-requires
     loop-holds
     sub-turns

@@ -2,6 +2,7 @@
 -- Assumes nothing.
 use Prim.Native.Nat.{_-_, _≤_}
 use mathlib.Core.Path.{_≡_}
+use mathlib.Core.Bool.{false≢true}
 use lib.ListN.{length}
 use borrow.Author.Needs.{needs}
 use Rattle.files.proofs.start.fill.Statement.{statement}
@@ -59,7 +60,7 @@ same-length-2 : tie.Need-same-length-2 Inv-loop μ-loop
 same-length-2 c = search needs
 
 returns-2 : tie.Need-returns-2 Inv-loop μ-loop
-returns-2 c = search needs
+returns-2 c = record { within = c .before .loop .inv .0; length-stays = c .before .loop .inv .1; failed-before-full = λ e. absurd (false≢true e) }
 
 pub fill-spec : {M : Type 1} → statement M
 fill-spec =

@@ -9,13 +9,10 @@ use Rattle.run_passes.proofs.first_pass.hear_samples.Statement.{stateme
 use Rattle.run_passes.proofs.first_pass.hear_samples.Tie as tie
 
 abbrev Inv-loop : tie.InvT-loop
-Inv-loop fd buf₀ watched check₀ tally₀ bytes₀ turns₀ buf check tally bytes turns = length buf ≡ length buf₀
+Inv-loop fd buf₀ check₀ tally₀ bytes₀ turns₀ buf check tally bytes turns = length buf ≡ length buf₀
 
 abbrev μ-loop : tie.MeasureT-loop
-μ-loop fd buf₀ watched check₀ tally₀ bytes₀ turns₀ buf check tally bytes turns = turns
-
-is-watched-requires : tie.Need-is-watched-requires Inv-loop μ-loop
-is-watched-requires c κs = search needs
+μ-loop fd buf₀ check₀ tally₀ bytes₀ turns₀ buf check tally bytes turns = turns
 
 check-requires : tie.Need-check-requires Inv-loop μ-loop
 check-requires c κs = search needs
@@ -89,7 +86,6 @@ hear-samples-spec =
     (tie.spec
     Inv-loop
     μ-loop
-    is-watched-requires
     check-requires
     no-bytes-requires
     loop-holds
