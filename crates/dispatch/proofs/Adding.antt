@@ -1,6 +1,6 @@
 -- The sets of a mask one after the other as what a quiet second adds is put beside them: at each place the sets before it have theirs,
 -- and what was given is the part of their running total. Assumes nothing.
-use Prim.Native.Nat.{ℕ, zero, suc, _+_, _-_, _*_, _/_, _≤_, _<_, zero-le}
+use Prim.Native.Nat.{ℕ, suc, _+_, _-_, _*_, _/_, _≤_, _<_, zero-le}
 use mathlib.Core.Path.{_≡_, _∙_}
 use mathlib.Core.Bool.{true, false}
 use mathlib.Core.List.{List}
@@ -17,12 +17,13 @@ use Rattle.rules.specs.Fuel.{fuelRate}
 use Rattle.rules.proofs.StationFacts.{rating-range}
 use Rattle.laws.proofs.Share.{share-most}
 use Rattle.words.specs.Masks.{nextSet}
-use Rattle.words.proofs.Walk.{Place, place, next-from, between}
+use Rattle.words.proofs.Walk.{Place}
 use Rattle.words.proofs.Weighed.{weighed-has, weighed-not, weighed-rises}
 use Rattle.gensets.proofs.SharesWalk.{ratingOf}
 use Rattle.modes.proofs.Filled.{Filling, filling-start, filling-at, filling-more}
 use Rattle.dispatch.specs.Quiet.{energyAt, fuelAt, Addable}
 use Rattle.dispatch.specs.CurveTable.{Tabled, Readable}
+use Rattle.dispatch.proofs.PassedBy.{to-next}
 
 pub record Adding (sets : List GenSet) (mask diesel cap : ℕ) (energies fuels : List ℕ) (i given : ℕ) (adds burns : List ℕ) : Type 0 where
   pub gave : given ≡ diesel * runningTotal sets mask i / cap
@@ -32,10 +33,10 @@ pub record Adding (sets : List GenSet) (mask diesel cap : ℕ) (energies fuels :
 module _ {sets : List GenSet} {mask diesel cap : ℕ} {energies fuels : List ℕ} (h : Addable sets mask diesel cap energies fuels) where
   module _ {given : ℕ} {adds burns : List ℕ} where
     -- a set that the mask has not
-    passed-by : (i : ℕ) → Adding sets mask diesel cap energies fuels i given adds burns → i < 8 → has mask i ≡ false
+    passed-by : (i : ℕ) → i < 8 → has mask i ≡ false → Adding sets mask diesel cap energies fuels i given adds burns
         → Adding sets mask diesel cap energies fuels (suc i) given adds burns
     unfolding runningTotal energyAt fuelAt
-    passed-by i now l none =
+    passed-by i l none now =
         let e : getD adds i 0 ≡ energyAt sets mask diesel energies i = filling-at _ _ 8 i adds (now .added) 0 ∙ rw none in
         let f : getD burns i 0 ≡ fuelAt sets mask diesel fuels i = filling-at _ _ 8 i burns (now .burned) 0 ∙ rw none in
         record {
@@ -44,22 +45,12 @@ module _ {sets : List GenSet} {mask diesel cap : ℕ} {energies fuels : List ℕ
           burned = rw (set-getD, add-one i) at (filling-more _ _ 8 i burns (now .burned) l (getD burns i 0) f);
         }
 
-    all-passed-by : (i n : ℕ) → Adding sets mask diesel cap energies fuels i given adds burns → i + n ≤ 8 → ((k : ℕ) → i ≤ k → k < i + n → has mask k ≡ false)
-        → Adding sets mask diesel cap energies fuels (i + n) given adds burns
-    all-passed-by i zero now l none = let e : i + 0 ≡ i = omega arith in rw e now
-    all-passed-by i (suc n) now l none =
-        let e : i + suc n ≡ suc (i + n) = omega arith in
-        rw e (passed-by (i + n) (all-passed-by i n now (omega arith) (λ k a b. none k a (omega arith))) (omega arith) (none (i + n) (omega arith) (omega arith)))
-
-    -- those up to the walk's next set
-    to-next : (i : ℕ) → i ≤ 8 → Adding sets mask diesel cap energies fuels i given adds burns → Adding sets mask diesel cap energies fuels (nextSet mask i) given adds burns
-    to-next i l now =
-        let e : i + (nextSet mask i - i) ≡ nextSet mask i = omega (arith, next-from mask i) in
-        rw e at (all-passed-by i (nextSet mask i - i) now (omega (arith, place mask i l .range, e)) (λ k a b. between mask i k a (omega arith)))
+    up-to-next : (i : ℕ) → i ≤ 8 → Adding sets mask diesel cap energies fuels i given adds burns → Adding sets mask diesel cap energies fuels (nextSet mask i) given adds burns
+    up-to-next i l now = to-next mask (λ k. Adding sets mask diesel cap energies fuels k given adds burns) passed-by i l now
 
   pub adding-start : Adding sets mask diesel cap energies fuels (nextSet mask 0) 0 energies fuels
   unfolding runningTotal sumTo
-  adding-start = to-next 0 zero-le (record {
+  adding-start = up-to-next 0 zero-le (record {
     gave = rw (mul-zero, zero-div);
     added = filling-start _ _ 8 (h .energies-length);
     burned = filling-start _ _ 8 (h .fuels-length);
@@ -138,7 +129,7 @@ module _ {sets : List GenSet} {mask diesel cap : ℕ} {energies fuels : List ℕ
       adding-more rate e =
           let p : getD adds i 0 + (diesel * getD sums i 0 / cap - given) ≡ energyAt sets mask diesel energies i = rw (own-energy, takes-share, on) in
           let q : getD burns i 0 + rate ≡ fuelAt sets mask diesel fuels i = rw (e, own-fuel, takes-share, on) in
-          to-next (i + 1) (omega arith) (record {
+          up-to-next (i + 1) (omega arith) (record {
             gave = rw (sum-is, add-one i);
             added = filling-more _ _ 8 i adds (now .added) l _ p;
             burned = filling-more _ _ 8 i burns (now .burned) l _ q;

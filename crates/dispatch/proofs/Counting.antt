@@ -1,6 +1,6 @@
--- The sets one after the other as they count: at each place the sets before it have counted at their shares, the others are as they
--- were, and what was given is the part of their running total. Assumes nothing.
-use Prim.Native.Nat.{ℕ, suc, _+_, _-_, _*_, _/_, _≤_, _<_}
+-- The sets of the mask one after the other as they count: at each place the sets before it have counted at their shares, the others are
+-- as they were, and what was given is the part of their running total. Assumes nothing.
+use Prim.Native.Nat.{ℕ, suc, _+_, _-_, _*_, _/_, _≤_, _<_, zero-le}
 use mathlib.Core.Path.{_≡_, refl, sym, ap, _∙_}
 use mathlib.Core.Bool.{true, false}
 use mathlib.Core.List.{List}
@@ -20,10 +20,13 @@ use Rattle.rules.specs.Commands.{counted}
 use Rattle.rules.proofs.StationFacts.{rating-range}
 use Rattle.rules.proofs.Masks.{mask-has}
 use Rattle.laws.proofs.Share.{share-most}
+use Rattle.words.specs.Masks.{nextSet}
+use Rattle.words.proofs.Walk.{Place}
 use Rattle.words.proofs.Weighed.{weighed-has, weighed-not, weighed-rises}
 use Rattle.gensets.proofs.SharesWalk.{ratingOf}
 use Rattle.modes.proofs.Filled.{Filling, filling-start, filling-at, filling-more}
 use Rattle.dispatch.specs.Sized.{Countable, CountableAll}
+use Rattle.dispatch.proofs.PassedBy.{to-next}
 
 -- the set at a place after the second
 abbrev pub countedAt : List GenSet → List SetState → ℕ → ℕ → ℕ → SetState
@@ -44,89 +47,96 @@ pub record Counting (sets : List GenSet) (states : List SetState) (mask diesel c
   pub filled : Filling (countedAt sets states mask diesel) states 8 i out
 
 module _ {sets : List GenSet} {states : List SetState} {mask diesel cap : ℕ} (h : Asked sets states mask diesel cap) where
-  pub counting-start : length states ≡ 8 → Counting sets states mask diesel cap 0 0 0 states
-  unfolding runningTotal sumTo
-  counting-start size = record { summed = refl; gave = rw (mul-zero, zero-div); filled = filling-start _ _ 8 size }
-
   on-has : (i : ℕ) → i < 8 → has mask i ≡ isOn (stateAt states i .mode)
   unfolding onMask
   on-has i l = ap (λ (m : ℕ). has m i) (h .is-mask) ∙ mask-has (λ j. isOn (stateAt states j .mode)) 8 i l
 
-  module _ {i sum given : ℕ} {out : List SetState} (now : Counting sets states mask diesel cap i sum given out) (l : i < 8) where
-    pub own : stateAt out i ≡ stateAt states i
-    unfolding stateAt
-    own = filling-at _ _ 8 i out (now .filled) (fresh Off)
+  -- what stands at the place that the walk has come to is still the set's own
+  own : {i sum given : ℕ} {out : List SetState} → Counting sets states mask diesel cap i sum given out → stateAt out i ≡ stateAt states i
+  unfolding stateAt
+  own now = filling-at _ _ 8 _ _ (now .filled) (fresh Off)
 
-    -- a set that is not On
-    pub counting-kept : isOn (stateAt out i .mode) ≡ false → Counting sets states mask diesel cap (i + 1) sum given out
-    unfolding runningTotal counted stateAt
-    counting-kept off =
-        let o : isOn (stateAt states i .mode) ≡ false = rw own at off in
-        let none : has mask i ≡ false = on-has i l ∙ o in
-        let idle : stateAt states i ≡ countedAt sets states mask diesel i = rw o in
-        record {
-          summed = now .summed ∙ rw (add-one i) (sym (weighed-not (ratingOf sets) mask i none));
-          gave = now .gave;
-          filled = rw set-getD at (filling-more _ _ 8 i out (now .filled) l (getD out i (fresh Off)) (own ∙ idle));
-        }
+  -- a set that is not On counts nothing
+  passed-by : {sum given : ℕ} {out : List SetState} (i : ℕ) → i < 8 → has mask i ≡ false
+      → Counting sets states mask diesel cap i sum given out → Counting sets states mask diesel cap (suc i) sum given out
+  unfolding runningTotal counted stateAt
+  passed-by {sum} {given} {out} i l none now =
+      let off : isOn (stateAt states i .mode) ≡ false = sym (on-has i l) ∙ none in
+      let idle : stateAt states i ≡ countedAt sets states mask diesel i = rw off in
+      record {
+        summed = now .summed ∙ sym (weighed-not (ratingOf sets) mask i none);
+        gave = now .gave;
+        filled = rw (set-getD, add-one i) at (filling-more _ _ 8 i out (now .filled) l (getD out i (fresh Off)) (own now ∙ idle));
+      }
 
-    module _ (on : isOn (stateAt out i .mode) ≡ true) where
-      was-on : isOn (stateAt states i .mode) ≡ true
-      was-on = rw own at on
+  up-to-next : {sum given : ℕ} {out : List SetState} (i : ℕ) → i ≤ 8 → Counting sets states mask diesel cap i sum given out
+      → Counting sets states mask diesel cap (nextSet mask i) sum given out
+  up-to-next {sum} {given} {out} i l now = to-next mask (λ k. Counting sets states mask diesel cap k sum given out) passed-by i l now
 
-      one-more : sum + ratingOf sets i ≡ runningTotal sets mask (suc i)
-      unfolding runningTotal
-      one-more = rw (now .summed) (sym (weighed-has (ratingOf sets) mask i (on-has i l ∙ was-on)))
+  pub counting-start : length states ≡ 8 → Counting sets states mask diesel cap (nextSet mask 0) 0 0 states
+  unfolding runningTotal sumTo
+  counting-start size = up-to-next 0 zero-le (record { summed = refl; gave = rw (mul-zero, zero-div); filled = filling-start _ _ 8 size })
 
-      pub within-capacity : sum + ratingOf sets i ≤ cap
-      unfolding runningTotal capacity
-      within-capacity =
-          let e : suc i + (7 - i) ≡ 8 = omega arith in
-          rw (one-more, h .is-cap) (rw e at (weighed-rises (ratingOf sets) mask (suc i) (7 - i)))
+  module _ {i sum given : ℕ} {out : List SetState} (now : Counting sets states mask diesel cap i sum given out) (at : Place mask i) (l : i < 8) where
+    was-on : isOn (stateAt states i .mode) ≡ true
+    was-on = sym (on-has i l) ∙ at .here l
 
-      pub some-capacity : 0 < cap
-      some-capacity = omega (arith, within-capacity, rating-range (setAt sets i) (h .countable .numbers i l was-on) .0)
+    pub on-here : isOn (stateAt out i .mode) ≡ true
+    on-here = rw (own now) was-on
 
-      cap-small : cap ≤ 80_000_000
-      cap-small = rw (h .is-cap) (h .countable .capacity-most)
+    one-more : sum + ratingOf sets i ≡ runningTotal sets mask (suc i)
+    unfolding runningTotal
+    one-more = rw (now .summed) (sym (weighed-has (ratingOf sets) mask i (at .here l)))
 
-      diesel-cap : diesel ≤ cap
-      diesel-cap = rw (h .is-cap) (h .countable .diesel-most)
+    pub within-capacity : sum + ratingOf sets i ≤ cap
+    unfolding runningTotal capacity
+    within-capacity =
+        let e : suc i + (7 - i) ≡ 8 = omega arith in
+        rw (one-more, h .is-cap) (rw e at (weighed-rises (ratingOf sets) mask (suc i) (7 - i)))
 
-      pub sum-small : sum + ratingOf sets i ≤ 80_000_000
-      sum-small = le-trans within-capacity cap-small
+    pub some-capacity : 0 < cap
+    some-capacity = omega (arith, within-capacity, rating-range (setAt sets i) (h .countable .numbers i l was-on) .0)
 
-      pub product-small : diesel * (sum + ratingOf sets i) ≤ 80_000_000 * 80_000_000
-      product-small = mul-le-mul (le-trans diesel-cap cap-small) sum-small
+    cap-small : cap ≤ 80_000_000
+    cap-small = rw (h .is-cap) (h .countable .capacity-most)
 
-      pub given-rises : given ≤ diesel * (sum + ratingOf sets i) / cap
-      given-rises =
-          let more : sum ≤ sum + ratingOf sets i = omega arith in
-          rw (now .gave) (le-div-iff-mul-le some-capacity .1 (le-trans (div-mul-le-self (diesel * sum) cap) (mul-le-mul-left diesel more)))
+    diesel-cap : diesel ≤ cap
+    diesel-cap = rw (h .is-cap) (h .countable .diesel-most)
 
-      takes-share : diesel * (sum + ratingOf sets i) / cap - given ≡ share sets mask diesel i
-      unfolding share
-      takes-share = rw (now .gave, one-more, now .summed, h .is-cap)
+    pub sum-small : sum + ratingOf sets i ≤ 80_000_000
+    sum-small = le-trans within-capacity cap-small
 
-      pub takes-rating : diesel * (sum + ratingOf sets i) / cap - given ≤ ratingOf sets i
-      takes-rating = rw takes-share (share-most sets mask diesel (h .countable .diesel-most) i)
+    pub product-small : diesel * (sum + ratingOf sets i) ≤ 80_000_000 * 80_000_000
+    product-small = mul-le-mul (le-trans diesel-cap cap-small) sum-small
 
-      pub rating-small : ratingOf sets i ≤ 10_000_000
-      rating-small = rating-range (setAt sets i) (h .countable .numbers i l was-on) .1
+    pub given-rises : given ≤ diesel * (sum + ratingOf sets i) / cap
+    given-rises =
+        let more : sum ≤ sum + ratingOf sets i = omega arith in
+        rw (now .gave) (le-div-iff-mul-le some-capacity .1 (le-trans (div-mul-le-self (diesel * sum) cap) (mul-le-mul-left diesel more)))
 
-      pub countable-here : Countable (setAt sets i) (stateAt out i) (diesel * (sum + ratingOf sets i) / cap - given)
-      countable-here = rw own (record {
-        numbers = h .countable .numbers i l;
-        pairs = h .countable .pairs i l;
-        power-most = takes-rating;
-        small = h .countable .small i l;
-      })
+    takes-share : diesel * (sum + ratingOf sets i) / cap - given ≡ share sets mask diesel i
+    unfolding share
+    takes-share = rw (now .gave, one-more, now .summed, h .is-cap)
 
-      pub counting-more : (after : SetState) → after ≡ counted (setAt sets i) (stateAt out i) (diesel * (sum + ratingOf sets i) / cap - given)
-          → Counting sets states mask diesel cap (i + 1) (sum + ratingOf sets i) (diesel * (sum + ratingOf sets i) / cap) (set out i after)
-      counting-more after e =
-          record {
-            summed = rw (add-one i) one-more;
-            gave = refl;
-            filled = filling-more _ _ 8 i out (now .filled) l after (e ∙ rw (own, takes-share));
-          }
+    pub takes-rating : diesel * (sum + ratingOf sets i) / cap - given ≤ ratingOf sets i
+    takes-rating = rw takes-share (share-most sets mask diesel (h .countable .diesel-most) i)
+
+    pub rating-small : ratingOf sets i ≤ 10_000_000
+    rating-small = rating-range (setAt sets i) (h .countable .numbers i l was-on) .1
+
+    pub countable-here : Countable (setAt sets i) (stateAt out i) (diesel * (sum + ratingOf sets i) / cap - given)
+    countable-here = rw (own now) (record {
+      numbers = h .countable .numbers i l;
+      pairs = h .countable .pairs i l;
+      power-most = takes-rating;
+      small = h .countable .small i l;
+    })
+
+    pub counting-more : (after : SetState) → after ≡ counted (setAt sets i) (stateAt out i) (diesel * (sum + ratingOf sets i) / cap - given)
+        → Counting sets states mask diesel cap (nextSet mask (i + 1)) (sum + ratingOf sets i) (diesel * (sum + ratingOf sets i) / cap) (set out i after)
+    counting-more after e =
+        up-to-next (i + 1) (omega arith) (record {
+          summed = rw (add-one i) one-more;
+          gave = refl;
+          filled = filling-more _ _ 8 i out (now .filled) l after (e ∙ rw (own now, takes-share));
+        })

@@ -4,6 +4,7 @@ pub mod LastingLaws
 pub mod QuietLaws
 pub mod Steps
 pub mod QuietSteps
+pub mod PassedBy
 pub mod Counting
 pub mod CurveFilled
 pub mod CurveRead

@@ -8,6 +8,7 @@ use modes::mode::is_on;
 use rules::run::Mode;
 use rules::run::SetState;
 use rules::station::GenSet;
+use words::masks::next_set;
 
 // "go Warming, one start"
 fn start_set(genset: GenSet, state: SetState) -> SetState
@@ -90,15 +91,17 @@ pub(crate) fn has_set(mask: u32, place: usize) -> bool
 pub(crate) fn every_on(states: [SetState; 8], mask: u32) -> bool
     ensures { λ r. ⌜ r ≡ everyOn states mask ⌝ }
 {
-    let mut ok = true;
-    let mut i: usize = 0;
-    while i < 8 {
-        let state = states[i];
+    let mut place = next_set(mask, 0);
+    while place < 8 {
+        let at = place as usize;
+        let state = states[at];
         let mode = state.mode;
-        ok = ok & (!has_set(mask, i) | is_on(mode));
-        i += 1;
+        if !is_on(mode) {
+            return false;
+        }
+        place = next_set(mask, place + 1);
     }
-    ok
+    true
 }
 
 // The commands to every set, where the mask's sets are called.

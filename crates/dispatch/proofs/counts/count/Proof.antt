@@ -2,10 +2,9 @@
 -- Assumes nothing.
 use borrow.Author.Needs.{needs}
 use Prim.Native.Nat.{ℕ, _+_, _*_, _≤_}
-use mathlib.Core.Path.{_≡_, refl, sym, ap, _∙_}
-use mathlib.Core.Bool.{Bool, true, false}
+use mathlib.Core.Path.{_≡_, sym, ap, _∙_}
+use mathlib.Core.Bool.{true}
 use native.Mathlib.Omega.{arith}
-use borrow.Author.Tests.{not-true, not-false}
 use Rattle.rules.specs.declared.station.GenSet.{GenSet}
 use Rattle.rules.specs.declared.run.SetState.{SetState}
 use Rattle.rules.specs.Fuel.{fuelRate}
@@ -30,66 +29,41 @@ module _ (g : GenSet) (s : SetState) (power : ℕ) (h : Countable g s power) (is
   burned-is : (r : Rate) (n : ℕ) → r ≡ rateTold g power → r ≡ Rate.PerHour n → n ≡ fuelRate g power
   burned-is r n e q = ap perHour (sym q ∙ rated r e)
 
--- a set that is not On stays as it is
-idle : (g : GenSet) (s : SetState) (power : ℕ) → isOn (s .mode) ≡ false → s ≡ counted g s power
-unfolding counted
-idle g s power e = rw e
-
-is-on-requires : tie.Need-is-on-requires
-is-on-requires c κs = search needs
-
-returns : tie.Need-returns
-returns c = idle _ _ _ (sym (c .before .is-on .ensures) ∙ not-true _ (c .if1 .taken))
-
 fuel-rate-requires : tie.Need-fuel-rate-requires
 fuel-rate-requires c κs = search needs
 
 enum-known-rate : tie.Need-enum-known-rate
 enum-known-rate c = search needs
 
-returns-2 : tie.Need-returns-2
-returns-2 c =
-    let after-is-on = c .before .before .before in
-    absurd (rate-only _ _ (rated _ _ _ (after-is-on .before .pre) (sym (after-is-on .is-on .ensures) ∙ not-false _ (c .before .before .if1 .left)) _ (c .before .fuel-rate .ensures)) (c .match .keys2))
+returns : tie.Need-returns
+returns c =
+    let start = c .before .before in
+    absurd (rate-only _ _ (rated _ _ _ (start .pre .0) (start .pre .1) _ (c .before .fuel-rate .ensures)) (c .match .keys2))
 
-add-t9 : tie.Need-add-t9
-add-t9 c = search needs
+add-t7 : tie.Need-add-t7
+add-t7 c = search needs
+
+add-t8 : tie.Need-add-t8
+add-t8 c = search needs
 
 add-t10 : tie.Need-add-t10
 add-t10 c = search needs
 
-add-t12 : tie.Need-add-t12
-add-t12 c = search needs
-
-add-t13 : tie.Need-add-t13
-add-t13 c =
+add-t11 : tie.Need-add-t11
+add-t11 c =
     let after-fuel-rate = c .before .before .before .before .before .before .before in
-    let after-if1 = after-fuel-rate .before in
-    let after-is-on = after-if1 .before in
-    let start = after-is-on .before in
-    omega (arith, burned-is _ _ _ (start .pre) (sym (after-is-on .is-on .ensures) ∙ not-false _ (after-if1 .if1 .left)) _ _ (after-fuel-rate .fuel-rate .ensures) (c .before .before .before .before .before .rate .given .1), small _ _ _ (start .pre) (sym (after-is-on .is-on .ensures) ∙ not-false _ (after-if1 .if1 .left)), start .pre .small .fuel-most)
+    let start = after-fuel-rate .before in
+    omega (arith, burned-is _ _ _ (start .pre .0) (start .pre .1) _ _ (after-fuel-rate .fuel-rate .ensures) (c .before .before .before .before .before .rate .given .1), small _ _ _ (start .pre .0) (start .pre .1), start .pre .0 .small .fuel-most)
 
-returns-3 : tie.Need-returns-3
+returns-2 : tie.Need-returns-2
 unfolding counted
-returns-3 c =
+returns-2 c =
     let after-fuel-rate = c .before .before .before .before .before .before .before in
-    let after-if1 = after-fuel-rate .before in
-    let after-is-on = after-if1 .before in
-    let start = after-is-on .before in
-    let o : isOn (start .args .state .mode) ≡ true = sym (after-is-on .is-on .ensures) ∙ not-false _ (after-if1 .if1 .left) in
-    rw (o, ← burned-is _ _ _ (start .pre) o _ _ (after-fuel-rate .fuel-rate .ensures) (c .before .before .before .before .before .rate .given .1))
+    let start = after-fuel-rate .before in
+    let o : isOn (start .args .state .mode) ≡ true = start .pre .1 in
+    rw (o, ← burned-is _ _ _ (start .pre .0) o _ _ (after-fuel-rate .fuel-rate .ensures) (c .before .before .before .before .before .rate .given .1))
 
 pub count-spec : {M : Type 1} → statement M
 count-spec =
     tie.close
-    (tie.spec
-    is-on-requires
-    returns
-    fuel-rate-requires
-    enum-known-rate
-    returns-2
-    add-t9
-    add-t10
-    add-t12
-    add-t13
-    returns-3)
+    (tie.spec fuel-rate-requires enum-known-rate returns add-t7 add-t8 add-t10 add-t11 returns-2)
