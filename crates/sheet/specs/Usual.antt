@@ -10,11 +10,13 @@ use Rattle.rules.specs.declared.samples.Sample.{Sample}
 use Rattle.rules.specs.Numbers.{every}
 use Rattle.rules.specs.Bytes.{LF, CR, allDigits, valueFrom}
 use Rattle.rules.specs.Lines.{ended}
-use Rattle.rules.specs.Answers.{accepted}
-use Rattle.rules.specs.SampleFile.{powerCell}
+use Rattle.rules.specs.Answers.{Answer, accepted}
+use Rattle.rules.specs.SampleFile.{timeCell, powerCell}
 use Rattle.sheet.specs.declared.headings.Columns.{Columns}
 use Rattle.sheet.specs.declared.usual.DigitRun.{DigitRun}
-use Rattle.sheet.specs.declared.usual.PowerRun.{PowerRun}
+use Rattle.sheet.specs.declared.usual.CellRead.{CellRead}
+use Rattle.sheet.specs.declared.usual.PowersRead.{PowersRead}
+use Rattle.sheet.specs.declared.usual.EndRead.{EndRead}
 use Rattle.sheet.specs.declared.usual.Usual.{Usual}
 use Rattle.sheet.specs.declared.rows.Powers.{Powers}
 use Rattle.sheet.specs.Rows.{rowIn, rowOfValues}
@@ -32,22 +34,48 @@ pub record DigitsTaken (s : List ℕ) (at most before : ℕ) (r : DigitRun) : Ty
   pub all : allDigits taken ≡ true
   pub number : r .number ≡ valueFrom before taken
 
--- the power that was taken: its cell has no byte below the point, so neither comma nor LF nor CR
-pub record PowerTaken (s : List ℕ) (at : ℕ) (r : PowerRun) : Type 0 where
-  pub cell : List ℕ
-  pub part : Part s at (r .end) cell
-  pub most : length cell ≤ 10
+-- a cell from a place on that is handed back as the part of the text that it is, and its number. It has no byte below the point, so neither
+-- comma nor LF nor CR. One that is not blank has the form that its rule asks, and the rule gives its number up to any limit
+pub record CellPart (rule : ℕ → ℕ → List ℕ → Answer ℕ) (most : ℕ) (s : List ℕ) (at : ℕ) (cell : List ℕ) (number : ℕ) : Type 0 where
+  pub part : Part s at (at + length cell) cell
+  pub few : length cell ≤ most
   pub clean : every (λ x. leb 46 x) cell ≡ true
-  pub value : (line : ℕ) → powerCell line 50000000 cell ≡ accepted (r .watts)
+  pub value : 0 < length cell → (line limit : ℕ) → number ≤ limit → rule line limit cell ≡ accepted number
 
--- the power after the comma at this place
-abbrev pub AfterComma : List ℕ → ℕ → PowerRun → Type 0
-AfterComma s at r = (getD s at 0 ≡ 44) × PowerTaken s (at + 1) r
+-- such a cell within its limit, which ends at the place `end`
+pub record CellTaken (rule : ℕ → ℕ → List ℕ → Answer ℕ) (most limit : ℕ) (s : List ℕ) (at end number : ℕ) : Type 0 where
+  pub cell : List ℕ
+  pub part : Part s at end cell
+  pub few : length cell ≤ most
+  pub clean : every (λ x. leb 46 x) cell ≡ true
+  pub value : (line : ℕ) → rule line limit cell ≡ accepted number
+
+-- "Time: 1 to 9 digits, at most 316,223,999"
+abbrev pub TimeTaken : List ℕ → ℕ → ℕ → ℕ → Type 0
+TimeTaken s at end seconds = CellTaken timeCell 9 316223999 s at end seconds
+
+-- "Power in kW: 1 to 6 digits, then nothing or a point and 1 to 3 digits, at most 50,000 kW", after the comma at this place
+abbrev pub PowerTaken : List ℕ → ℕ → ℕ → ℕ → Type 0
+PowerTaken s at end watts = (getD s at 0 ≡ 44) × CellTaken powerCell 10 50000000 s (at + 1) end watts
+
+-- what is known of a cell that was read as a time, and as a power
+abbrev pub timeOf : List ℕ → ℕ → CellRead → Type 0
+timeOf s at (CellRead.Number end seconds) = TimeTaken s at end seconds
+timeOf s at CellRead.Other = Unit {0}
+
+abbrev pub powerOf : List ℕ → ℕ → CellRead → Type 0
+powerOf s at (CellRead.Number end watts) = PowerTaken s at end watts
+powerOf s at CellRead.Other = Unit {0}
 
 -- so many powers, one after the other, each after a comma, and their watts
 abbrev pub PowersTaken : ℕ → List ℕ → ℕ → ℕ → List ℕ → Type 0
 PowersTaken zero s at end watts = end ≡ at
-PowersTaken (suc n) s at end watts = (middle : ℕ) × PowersTaken n s at middle watts × AfterComma s middle (record { end = end; watts = getD watts n 0; usual = true })
+PowersTaken (suc n) s at end watts = (middle : ℕ) × PowersTaken n s at middle watts × PowerTaken s middle end (getD watts n 0)
+
+-- what is known of three powers that were read
+abbrev pub powersOf : List ℕ → ℕ → PowersRead → Type 0
+powersOf s at (PowersRead.Watts end powers) = PowersTaken 3 s at end (powers .second ∷ powers .third ∷ powers .fourth ∷ [])
+powersOf s at PowersRead.Other = Unit {0}
 
 -- "A line ends at LF (one CR just before it is dropped)": the end of a line from a place on, with one CR or none
 pub record EndTaken (s : List ℕ) (at next : ℕ) : Type 0 where
@@ -55,6 +83,11 @@ pub record EndTaken (s : List ℕ) (at next : ℕ) : Type 0 where
   pub few : length dropped ≤ 1
   pub all : every (λ x. eqb x CR) dropped ≡ true
   pub part : Part s at next (dropped ++ LF ∷ [])
+
+-- what is known of a line's end that was read
+abbrev pub endOf : List ℕ → ℕ → EndRead → Type 0
+endOf s at (EndRead.Next next) = EndTaken s at next
+endOf s at EndRead.Other = Unit {0}
 
 -- the line from a place on, which ends at the LF before `next`, is a row
 pub record UsualRight (columns : Columns) (s : List ℕ) (at : ℕ) (x : Sample) (next : ℕ) : Type 0 where

@@ -2,9 +2,10 @@
 // Any other row is left to `rows`, which says what is wrong with it.
 ghost use mathlib.Core.Path.{_≡_};
 ghost use mathlib.Core.Bool.{true};
-ghost use Prim.Native.Nat.{ℕ, _+_, _-_, _^_, _≤_, _<_};
-ghost use lib.ListN.{length, getD};
-ghost use Rattle.sheet.specs.Usual.{DigitsTaken, PowerTaken, PowersTaken, EndTaken, PowersNamed, usualOf};
+ghost use Prim.Native.Nat.{_+_, _-_, _^_, _≤_, _<_};
+ghost use lib.ListN.{length};
+ghost use Rattle.rules.specs.SampleFile.{timeCell, powerCell};
+ghost use Rattle.sheet.specs.Usual.{DigitsTaken, CellPart, timeOf, powerOf, powersOf, endOf, PowersNamed, usualOf};
 use crate::headings::Columns;
 use crate::numbers::last_worth;
 use crate::numbers::wide;
@@ -32,24 +33,25 @@ struct DigitRun {
     number: u32,
 }
 
-// Where a power ends, and its watts.
-struct PowerRun {
-    end: usize,
-    watts: u32,
-    usual: bool,
+// What a cell from a place on comes to. `specs/Usual.antt` says what is known of each case.
+enum CellRead {
+    // the place after the cell, and its number
+    Number(usize, u32),
+    Other,
 }
 
-// Where three powers end, and their watts in the file's order.
-struct PowersRun {
-    end: usize,
-    watts: [u32; 3],
-    usual: bool,
+// What three powers come to.
+enum PowersRead {
+    // the place after them, and their watts in the file's order
+    Watts(usize, Powers),
+    Other,
 }
 
-// The place after a line's end.
-struct EndRun {
-    next: usize,
-    usual: bool,
+// What the end of a line comes to.
+enum EndRead {
+    // the place after it
+    Next(usize),
+    Other,
 }
 
 // At most so many digits from a place on, after digits whose number is `before`.
@@ -75,91 +77,115 @@ fn digits_from(text: &[u8], at: usize, most: usize, before: u32) -> DigitRun
     }
 }
 
-// A power from a place on: "1 to 6 digits, then nothing or a point and 1 to 3 digits", in W.
-fn power_from(text: &[u8], at: usize) -> PowerRun
+// The cell of a time from a place on, handed back as the part of the text that it is: "1 to 9 digits". Blank where there is none. Its seconds
+// go where they are lent a place, since no enum can hold a part of a text beside a number.
+fn time_cell<'a>(text: &'a [u8], at: usize, seconds: &mut u32) -> &'a [u8]
+    requires { ⌜ at + 9 ≤ length (now text) ⌝ }
+    ensures { λ r. ⌜ CellPart timeCell 9 (now (text .entry)) at (now r) (now (seconds .exit)) ⌝ }
+{
+    let digits = digits_from(text, at, MOST_TIME_DIGITS, 0);
+    let end = digits.end;
+    *seconds = digits.number;
+    &text[at..end]
+}
+
+// The cell of a power, likewise, with its watts: "1 to 6 digits, then nothing or a point and 1 to 3 digits".
+fn power_cell<'a>(text: &'a [u8], at: usize, watts: &mut u32) -> &'a [u8]
     requires { ⌜ at + 11 ≤ length (now text) ⌝ }
-    ensures { λ r. ⌜ (r .usual ≡ true → PowerTaken (now (text .entry)) at r) ⌝ }
+    ensures { λ r. ⌜ CellPart powerCell 10 (now (text .entry)) at (now r) (now (watts .exit)) ⌝ }
 {
     let whole = digits_from(text, at, MOST_KW_DIGITS, 0);
     let point = whole.end;
+    if point == at {
+        return &text[at..at];
+    }
     if text[point] != b'.' {
-        let watts = whole.number * 1000;
-        return PowerRun {
-            end: point,
-            watts,
-            usual: (at < point) & (watts <= MOST_POWER),
-        };
+        *watts = whole.number * 1000;
+        return &text[at..point];
     }
     let start = point + 1;
     let all = digits_from(text, start, MOST_DECIMALS, whole.number);
     let end = all.end;
-    let watts = all.number * last_worth(end - start);
-    PowerRun {
-        end,
-        watts,
-        usual: (at < point) & (start < end) & (watts <= MOST_POWER),
+    if end == start {
+        return &text[at..at];
     }
+    *watts = all.number * last_worth(end - start);
+    &text[at..end]
 }
 
-// The power after a comma.
-fn power_after(text: &[u8], comma: usize) -> PowerRun
+// The time from a place on, "at most 316,223,999".
+fn time_from(text: &[u8], at: usize) -> CellRead
+    requires { ⌜ at + 9 ≤ length (now text) ⌝ }
+    ensures { λ r. ⌜ timeOf (now (text .entry)) at r ⌝ }
+{
+    let mut seconds = 0;
+    let cell = time_cell(text, at, &mut seconds);
+    if cell.len() == 0 {
+        return CellRead::Other;
+    }
+    if MOST_TIME < seconds {
+        return CellRead::Other;
+    }
+    CellRead::Number(at + cell.len(), seconds)
+}
+
+// The power after a comma, "at most 50,000 kW".
+fn power_after(text: &[u8], comma: usize) -> CellRead
     requires { ⌜ comma + 12 ≤ length (now text) ⌝ }
-    ensures { λ r. ⌜ (r .usual ≡ true → (getD (now (text .entry)) comma 0 ≡ 44) × PowerTaken (now (text .entry)) (comma + 1) r) ⌝ }
+    ensures { λ r. ⌜ powerOf (now (text .entry)) comma r ⌝ }
 {
     if text[comma] != b',' {
-        return PowerRun {
-            end: comma,
-            watts: 0,
-            usual: false,
-        };
+        return CellRead::Other;
     }
-    power_from(text, comma + 1)
+    let start = comma + 1;
+    let mut watts = 0;
+    let cell = power_cell(text, start, &mut watts);
+    if cell.len() == 0 {
+        return CellRead::Other;
+    }
+    if MOST_POWER < watts {
+        return CellRead::Other;
+    }
+    CellRead::Number(start + cell.len(), watts)
 }
 
 // Three powers, each after a comma. The loop has the one call of `power_after`, so that it costs no call.
-fn powers_after(text: &[u8], comma: usize) -> PowersRun
+fn powers_after(text: &[u8], comma: usize) -> PowersRead
     requires { ⌜ comma + 34 ≤ length (now text) ⌝ }
-    ensures { λ r. ⌜ (r .usual ≡ true → PowersTaken 3 (now (text .entry)) comma (r .end) (r .watts)) ⌝ }
+    ensures { λ r. ⌜ powersOf (now (text .entry)) comma r ⌝ }
 {
     let mut watts: [u32; 3] = [0; 3];
     let mut end = comma;
     let mut taken = 0;
     while taken < 3 {
-        let power = power_after(text, end);
-        if !power.usual {
-            return PowersRun {
-                end,
-                watts,
-                usual: false,
-            };
-        }
-        watts[taken] = power.watts;
-        end = power.end;
+        let CellRead::Number(after, power) = power_after(text, end) else {
+            return PowersRead::Other;
+        };
+        watts[taken] = power;
+        end = after;
         taken += 1;
     }
-    PowersRun {
-        end,
-        watts,
-        usual: true,
-    }
+    let powers = Powers {
+        second: watts[0],
+        third: watts[1],
+        fourth: watts[2],
+    };
+    PowersRead::Watts(end, powers)
 }
 
 // The end of a line at a place: "at LF (one CR just before it is dropped)".
-fn end_from(text: &[u8], at: usize) -> EndRun
+fn end_from(text: &[u8], at: usize) -> EndRead
     requires { ⌜ at + 2 ≤ length (now text) ⌝ }
-    ensures { λ r. ⌜ (r .usual ≡ true → EndTaken (now (text .entry)) at (r .next)) ⌝ }
+    ensures { λ r. ⌜ endOf (now (text .entry)) at r ⌝ }
 {
     let second = at + 1;
     if text[at] == b'\n' {
-        return EndRun {
-            next: second,
-            usual: true,
-        };
+        return EndRead::Next(second);
     }
-    EndRun {
-        next: second + 1,
-        usual: (text[at] == b'\r') & (text[second] == b'\n'),
+    if (text[at] == b'\r') & (text[second] == b'\n') {
+        return EndRead::Next(second + 1);
     }
+    EndRead::Other
 }
 
 // Whether each column after the time's has the name of a power.
@@ -197,23 +223,14 @@ pub fn usual_row(columns: Columns, text: &[u8], at: usize) -> Usual
     if !powers_named(columns) {
         return Usual::Other;
     }
-    let time = digits_from(text, at, MOST_TIME_DIGITS, 0);
-    if (time.end == at) | (MOST_TIME < time.number) {
+    let CellRead::Number(time_end, time) = time_from(text, at) else {
         return Usual::Other;
-    }
-    let cells = powers_after(text, time.end);
-    if !cells.usual {
+    };
+    let PowersRead::Watts(cells_end, powers) = powers_after(text, time_end) else {
         return Usual::Other;
-    }
-    let end = end_from(text, cells.end);
-    if !end.usual {
+    };
+    let EndRead::Next(next) = end_from(text, cells_end) else {
         return Usual::Other;
-    }
-    let watts = cells.watts;
-    let powers = Powers {
-        second: watts[0],
-        third: watts[1],
-        fourth: watts[2],
     };
     let load = value_under(1, columns, powers);
     let sheddable = value_under(3, columns, powers);
@@ -221,10 +238,10 @@ pub fn usual_row(columns: Columns, text: &[u8], at: usize) -> Usual
         return Usual::Other;
     }
     let sample = Sample {
-        at: time.number,
+        at: time,
         load,
         solar: value_under(2, columns, powers),
         sheddable,
     };
-    Usual::Row(sample, end.next)
+    Usual::Row(sample, next)
 }

@@ -6,33 +6,37 @@ use Rattle.sheet.proofs.usual.end_from.Tie as tie
 use Rattle.sheet.proofs.usual.end_from.Reads as reads
 use Rattle.sheet.proofs.usual.end_from.Lts as lts
 
--- src/usual.rt:152:18
+-- src/usual.rt:179:18
 add-second : tie.Need-add-second
 add-second c = search needs
 
--- src/usual.rt:153:8
+-- src/usual.rt:180:8
 shared-slice-read-if1 : tie.Need-shared-slice-read-if1
 shared-slice-read-if1 c = search needs
 
--- src/usual.rt:154:9
+-- src/usual.rt:181:9
 returns : tie.Need-returns
-returns c = λ e. lf-taken _ _ (c .before .before .pre) (c .if1 .taken)
+returns c = lf-taken _ _ (c .before .before .pre) (c .if1 .taken)
 
--- src/usual.rt:160:15
-add-t7 : tie.Need-add-t7
-add-t7 c = search needs
+-- src/usual.rt:183:9
+shared-slice-read-if2 : tie.Need-shared-slice-read-if2
+shared-slice-read-if2 c = search needs
 
--- src/usual.rt:161:17
-shared-slice-read-t5 : tie.Need-shared-slice-read-t5
-shared-slice-read-t5 c = search needs
+-- src/usual.rt:183:31
+shared-slice-read-if2-2 : tie.Need-shared-slice-read-if2-2
+shared-slice-read-if2-2 c = search needs
 
--- src/usual.rt:161:39
-shared-slice-read-t10 : tie.Need-shared-slice-read-t10
-shared-slice-read-t10 c = search needs
+-- src/usual.rt:184:30
+add-t12 : tie.Need-add-t12
+add-t12 c = search needs
 
--- src/usual.rt:148:1
+-- src/usual.rt:184:9
 returns-2 : tie.Need-returns-2
-returns-2 c = λ e. cr-lf-taken _ _ (c .before .before .before .before .pre) e
+returns-2 c = cr-lf-taken _ _ (c .before .before .before .before .before .pre) (c .if2 .taken)
+
+-- src/usual.rt:175:1
+returns-3 : tie.Need-returns-3
+returns-3 c = search needs
 
 pub end-from-spec : {M : Type 1} → statement M
 end-from-spec =
@@ -41,7 +45,8 @@ end-from-spec =
     add-second
     shared-slice-read-if1
     returns
-    add-t7
-    shared-slice-read-t5
-    shared-slice-read-t10
-    returns-2)
+    shared-slice-read-if2
+    shared-slice-read-if2-2
+    add-t12
+    returns-2
+    returns-3)

@@ -4,9 +4,8 @@ use mathlib.Core.Path.{_≡_, refl, subst}
 use native.Mathlib.Omega.{arith}
 use lib.ListN.{length, set, length-set}
 use borrow.Author.Needs.{needs}
-use borrow.Author.Tests.{not-false}
-use Rattle.rules.proofs.Tests.{never}
-use Rattle.sheet.specs.Usual.{PowersTaken}
+use Rattle.sheet.specs.declared.usual.CellRead.{CellRead}
+use Rattle.sheet.specs.Usual.{PowerTaken, PowersTaken, powerOf}
 use Rattle.sheet.proofs.PowersLaws.{powers-end, power-more}
 use Rattle.sheet.proofs.usual.powers_after.Statement.{statement}
 use Rattle.sheet.proofs.usual.powers_after.Tie as tie
@@ -20,55 +19,77 @@ Inv-loop text comma watts₀ end₀ taken₀ watts end taken = (taken ≤ 3) × 
 abbrev μ-loop : tie.MeasureT-loop
 μ-loop text comma watts₀ end₀ taken₀ watts end taken = 3 - taken
 
--- src/usual.rt:122:5
+-- src/usual.rt:158:5
 loop-holds : tie.Need-loop-holds Inv-loop μ-loop
 loop-holds c = (omega arith, refl, refl)
 
--- src/usual.rt:123:13
+-- src/usual.rt:159:46
 power-after-requires : tie.Need-power-after-requires Inv-loop μ-loop
 power-after-requires c κs =
     let l = c .before .loop in
-    let e = powers-end (l .taken) (c .before .before .before .args .text .now) (c .before .before .before .args .comma) (l .end) (l .watts) (l .inv .2) in
+    let a = c .before .before .before .args in
+    let e = powers-end (l .taken) (a .text .now) (a .comma) (l .end) (l .watts) (l .inv .2) in
     omega (arith, e, c .before .before .before .pre)
 
--- src/usual.rt:125:13
-returns : tie.Need-returns Inv-loop μ-loop
-returns c = λ e. never e
+-- src/usual.rt:159:30
+enum-known-after : tie.Need-enum-known-after Inv-loop μ-loop
+enum-known-after c = search needs
 
--- src/usual.rt:131:9
+-- src/usual.rt:160:13
+enum-told : tie.Need-enum-told Inv-loop μ-loop
+enum-told c = search needs
+
+-- src/usual.rt:160:13
+returns : tie.Need-returns Inv-loop μ-loop
+returns c = search needs
+
+-- src/usual.rt:162:9
 mul-watts : tie.Need-mul-watts Inv-loop μ-loop
 mul-watts c = record { fits = omega arith }
 
--- src/usual.rt:131:9
+-- src/usual.rt:162:9
 array-write-watts : tie.Need-array-write-watts Inv-loop μ-loop
 array-write-watts c = search needs
 
--- src/usual.rt:133:9
+-- src/usual.rt:164:9
 add-taken : tie.Need-add-taken Inv-loop μ-loop
 add-taken c = search needs
 
--- src/usual.rt:122:5
+-- src/usual.rt:158:5
 loop-less : tie.Need-loop-less Inv-loop μ-loop
 loop-less c = search needs
 
--- src/usual.rt:122:5
+-- src/usual.rt:158:5
 loop-again : tie.Need-loop-again Inv-loop μ-loop
 loop-again c =
-    let l = c .before .before .before .before .loop in
-    let a = c .before .before .before .before .before .before .args in
-    let p = c .before .before .power-after in
+    let l = c .before .before .before .before .before .loop in
+    let a = c .before .before .before .before .before .before .before .args in
+    let p = c .before .before .before .power-after in
     let h : l .taken < length (l .watts) = omega (arith, l .inv .1) in
-    let size : length (set (l .watts) (l .taken) (p .result .watts)) ≡ 3 = simp length-set (l .inv .1) in
-    (omega arith, size, power-more (l .taken) (a .text .now) (a .comma) (l .end) (l .watts) (p .result) h (l .inv .2) (p .ensures (not-false _ (c .if1 .left))))
+    let v = c .before .after .given in
+    let size : length (set (l .watts) (l .taken) (v .0 .1 .0)) ≡ 3 = simp length-set (l .inv .1) in
+    let power : PowerTaken (a .text .now) (l .end) (v .0 .0) (v .0 .1 .0) = subst (λ (r : CellRead). powerOf (a .text .now) (l .end) r) (v .1) (p .ensures) in
+    (omega arith, size, power-more (l .taken) (a .text .now) (a .comma) (l .end) (l .watts) (v .0 .0) (v .0 .1 .0) h (l .inv .2) power)
 
--- src/usual.rt:115:1
+-- src/usual.rt:167:17
+array-read-t16 : tie.Need-array-read-t16 Inv-loop μ-loop
+array-read-t16 c = search needs
+
+-- src/usual.rt:168:16
+array-read-t19 : tie.Need-array-read-t19 Inv-loop μ-loop
+array-read-t19 c = search needs
+
+-- src/usual.rt:169:17
+array-read-t22 : tie.Need-array-read-t22 Inv-loop μ-loop
+array-read-t22 c = search needs
+
+-- src/usual.rt:151:1
 returns-2 : tie.Need-returns-2 Inv-loop μ-loop
 returns-2 c =
     let l = c .before .loop in
     let a = c .before .before .before .args in
     let three : l .taken ≡ 3 = omega arith in
-    let taken : PowersTaken 3 (a .text .now) (a .comma) (l .end) (l .watts) = subst (λ (n : ℕ). PowersTaken n (a .text .now) (a .comma) (l .end) (l .watts)) three (l .inv .2) in
-    λ e. taken
+    subst (λ (n : ℕ). PowersTaken n (a .text .now) (a .comma) (l .end) (l .watts)) three (l .inv .2)
 
 pub powers-after-spec : {M : Type 1} → statement M
 powers-after-spec =
@@ -78,10 +99,15 @@ powers-after-spec =
     μ-loop
     loop-holds
     power-after-requires
+    enum-known-after
+    enum-told
     returns
     mul-watts
     array-write-watts
     add-taken
     loop-less
     loop-again
+    array-read-t16
+    array-read-t19
+    array-read-t22
     returns-2)

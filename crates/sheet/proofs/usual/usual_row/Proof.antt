@@ -1,120 +1,151 @@
 -- `sheet::usual::usual_row` meets its contract. Assumes nothing.
-use Prim.Native.Nat.{_+_, _≤_}
-use mathlib.Core.Path.{refl}
+use Prim.Native.Nat.{ℕ, _+_, _≤_}
+use mathlib.Core.Path.{refl, subst}
+use mathlib.Core.List.{List}
 use native.Mathlib.Omega.{arith}
 use lib.ListN.{length}
 use borrow.Author.Tests.{not-false}
+use Rattle.rules.specs.SampleFile.{timeCell}
 use Rattle.sheet.specs.declared.usual.Usual.{Usual}
+use Rattle.sheet.specs.declared.usual.CellRead.{CellRead}
+use Rattle.sheet.specs.declared.usual.PowersRead.{PowersRead}
+use Rattle.sheet.specs.declared.usual.EndRead.{EndRead}
+use Rattle.sheet.specs.Usual.{TimeTaken, EndTaken, timeOf, powersOf, endOf}
 use Rattle.sheet.proofs.RowLaws.{row-whole}
-use Rattle.sheet.proofs.UsualLaws.{time-end}
-use Rattle.sheet.proofs.PowersLaws.{powers-end, powers-line}
+use Rattle.sheet.proofs.UsualLaws.{cell-end}
+use Rattle.sheet.proofs.PowersLaws.{three-end, powers-line}
 use borrow.Author.Needs.{needs}
 use Rattle.sheet.proofs.usual.usual_row.Statement.{statement}
 use Rattle.sheet.proofs.usual.usual_row.Tie as tie
 use Rattle.sheet.proofs.usual.usual_row.Reads as reads
 use Rattle.sheet.proofs.usual.usual_row.Lts as lts
 use Rattle.sheet.proofs.rows.value_under.Reads as value-under-reads
-use Rattle.sheet.proofs.usual.digits_from.Reads as digits-from-reads
 use Rattle.sheet.proofs.usual.end_from.Reads as end-from-reads
 use Rattle.sheet.proofs.usual.has_room.Reads as has-room-reads
 use Rattle.sheet.proofs.usual.powers_after.Reads as powers-after-reads
 use Rattle.sheet.proofs.usual.powers_named.Reads as powers-named-reads
+use Rattle.sheet.proofs.usual.time_from.Reads as time-from-reads
 
--- src/usual.rt:194:9
+-- the text and the place that it is read from
+abbrev textIn : tie.After-time-end → List ℕ
+textIn c = c .before .before .before .before .before .before .before .before .args .text .now
+
+abbrev placeIn : tie.After-time-end → ℕ
+placeIn c = c .before .before .before .before .before .before .before .before .args .at
+
+room : (c : tie.After-time-end) → placeIn c + 44 ≤ length (textIn c)
+room c = c .before .before .before .before .before .before .has-room .ensures (not-false _ (c .before .before .before .before .before .if1 .left))
+
+-- what was read, cell by cell
+time-read : (c : tie.After-time-end) → TimeTaken (textIn c) (placeIn c) (c .time-end .given .0 .0) (c .time-end .given .0 .1 .0)
+time-read c = subst (λ (r : CellRead). timeOf (textIn c) (placeIn c) r) (c .time-end .given .1) (c .before .before .time-from .ensures)
+
+powers-read : (c : tie.After-cells-end) → powersOf (textIn (c .before .before .before .before)) (c .before .before .before .before .time-end .given .0 .0) (PowersRead.Watts (c .cells-end .given .0 .0) (c .cells-end .given .0 .1 .0))
+powers-read c = subst (λ (r : PowersRead). powersOf (textIn (c .before .before .before .before)) (c .before .before .before .before .time-end .given .0 .0) r) (c .cells-end .given .1) (c .before .before .powers-after .ensures)
+
+end-read : (c : tie.After-next) → EndTaken (textIn (c .before .before .before .before .before .before .before .before)) (c .before .before .before .before .cells-end .given .0 .0) (c .next .given .0 .0)
+end-read c = subst (λ (r : EndRead). endOf (textIn (c .before .before .before .before .before .before .before .before)) (c .before .before .before .before .cells-end .given .0 .0) r) (c .next .given .1) (c .before .before .end-from .ensures)
+
+time-ends : (c : tie.After-time-end) → c .time-end .given .0 .0 ≤ placeIn c + 9
+time-ends c = cell-end timeCell 9 316223999 (textIn c) (placeIn c) (c .time-end .given .0 .0) (c .time-end .given .0 .1 .0) (time-read c)
+
+-- src/usual.rt:219:9
 has-room-requires : tie.Need-has-room-requires
 has-room-requires c κs = search needs
 
--- src/usual.rt:195:9
+-- src/usual.rt:220:9
 returns : tie.Need-returns
 returns c = search needs
 
--- src/usual.rt:197:9
+-- src/usual.rt:222:9
 powers-named-requires : tie.Need-powers-named-requires
 powers-named-requires c κs = search needs
 
--- src/usual.rt:198:9
+-- src/usual.rt:223:9
 returns-2 : tie.Need-returns-2
 returns-2 c = search needs
 
--- src/usual.rt:200:9
-digits-from-requires : tie.Need-digits-from-requires
-digits-from-requires c κs =
+-- src/usual.rt:225:44
+time-from-requires : tie.Need-time-from-requires
+time-from-requires c κs =
     let start = c .before .before .before .before .before in
     let room : start .args .at + 44 ≤ length (start .args .text .now) = c .before .before .before .has-room .ensures (not-false _ (c .before .before .if1 .left)) in
-    (omega (arith, room), omega arith, omega arith)
+    omega (arith, room)
 
--- src/usual.rt:202:9
+-- src/usual.rt:225:26
+enum-known-time-end : tie.Need-enum-known-time-end
+enum-known-time-end c = search needs
+
+-- src/usual.rt:226:9
+enum-told : tie.Need-enum-told
+enum-told c = search needs
+
+-- src/usual.rt:226:9
 returns-3 : tie.Need-returns-3
 returns-3 c = search needs
 
--- src/usual.rt:204:9
+-- src/usual.rt:228:48
 powers-after-requires : tie.Need-powers-after-requires
-powers-after-requires c κs =
-    let start = c .before .before .before .before .before .before .before .before .before in
-    let room : start .args .at + 44 ≤ length (start .args .text .now) = c .before .before .before .before .before .before .before .has-room .ensures (not-false _ (c .before .before .before .before .before .before .if1 .left)) in
-    let time = c .before .before .before .digits-from in
-    omega (arith, room, time-end (start .args .text .now) (start .args .at) (time .result) (time .ensures))
+powers-after-requires c κs = omega (arith, room (c .before), time-ends (c .before))
 
--- src/usual.rt:206:9
+-- src/usual.rt:228:27
+enum-known-cells-end : tie.Need-enum-known-cells-end
+enum-known-cells-end c = search needs
+
+-- src/usual.rt:229:9
+enum-told-2 : tie.Need-enum-told-2
+enum-told-2 c = search needs
+
+-- src/usual.rt:229:9
 returns-4 : tie.Need-returns-4
 returns-4 c = search needs
 
--- src/usual.rt:208:9
+-- src/usual.rt:231:31
 end-from-requires : tie.Need-end-from-requires
 end-from-requires c κs =
-    let start = c .before .before .before .before .before .before .before .before .before .before .before .before in
-    let room : start .args .at + 44 ≤ length (start .args .text .now) = c .before .before .before .before .before .before .before .before .before .before .has-room .ensures (not-false _ (c .before .before .before .before .before .before .before .before .before .if1 .left)) in
-    let time = c .before .before .before .before .before .before .digits-from in
-    let cells = c .before .before .powers-after in
-    let taken = cells .ensures (not-false _ (c .if4 .left)) in
-    let first = time-end (start .args .text .now) (start .args .at) (time .result) (time .ensures) in
-    let last = powers-end 3 (start .args .text .now) (time .result .end) (cells .result .end) (cells .result .watts) taken in
-    omega (arith, room, first, last)
+    let time = c .before .before .before .before .before in
+    let last = three-end (textIn time) (time .time-end .given .0 .0) (c .before .cells-end .given .0 .0) (c .before .cells-end .given .0 .1 .0) (powers-read (c .before)) in
+    omega (arith, room time, time-ends time, last)
 
--- src/usual.rt:210:9
+-- src/usual.rt:231:23
+enum-known-next : tie.Need-enum-known-next
+enum-known-next c = search needs
+
+-- src/usual.rt:232:9
+enum-told-3 : tie.Need-enum-told-3
+enum-told-3 c = search needs
+
+-- src/usual.rt:232:9
 returns-5 : tie.Need-returns-5
 returns-5 c = search needs
 
--- src/usual.rt:214:17
-array-read-t18 : tie.Need-array-read-t18
-array-read-t18 c = search needs
-
--- src/usual.rt:215:16
-array-read-t21 : tie.Need-array-read-t21
-array-read-t21 c = search needs
-
--- src/usual.rt:216:17
-array-read-t24 : tie.Need-array-read-t24
-array-read-t24 c = search needs
-
--- src/usual.rt:218:9
+-- src/usual.rt:234:9
 value-under-requires : tie.Need-value-under-requires
 value-under-requires c κs = search needs
 
--- src/usual.rt:219:9
+-- src/usual.rt:235:9
 value-under-requires-2 : tie.Need-value-under-requires-2
 value-under-requires-2 c κs = search needs
 
--- src/usual.rt:221:9
+-- src/usual.rt:237:9
 returns-6 : tie.Need-returns-6
 returns-6 c = search needs
 
--- src/usual.rt:226:16
+-- src/usual.rt:242:16
 value-under-requires-3 : tie.Need-value-under-requires-3
 value-under-requires-3 c κs = search needs
 
--- src/usual.rt:191:1
+-- src/usual.rt:216:1
 returns-7 : tie.Need-returns-7
 returns-7 c =
-    let start = c .before .before .before .before .before .before .before .before .before .before .before .before .before .before .before .before .before .before .before .before in
-    let room : start .args .at + 44 ≤ length (start .args .text .now) = c .before .before .before .before .before .before .before .before .before .before .before .before .before .before .before .before .before .before .has-room .ensures (not-false _ (c .before .before .before .before .before .before .before .before .before .before .before .before .before .before .before .before .before .if1 .left)) in
-    let time = c .before .before .before .before .before .before .before .before .before .before .before .before .before .before .digits-from in
-    let cells = c .before .before .before .before .before .before .before .before .before .before .powers-after in
-    let taken = cells .ensures (not-false _ (c .before .before .before .before .before .before .before .before .if4 .left)) in
-    let end = c .before .before .before .before .before .before .before .end-from in
-    let named = c .before .before .before .before .before .before .before .before .before .before .before .before .before .before .before .before .powers-named .ensures (not-false _ (c .before .before .before .before .before .before .before .before .before .before .before .before .before .before .before .if2 .left)) in
-    powers-line (start .args .columns) (start .args .text .now) (start .args .at) (time .result) (cells .result .end) (cells .result .watts) (end .result .next) named room (time .ensures) (c .before .before .before .before .before .before .before .before .before .before .before .if3 .left) taken (end .ensures (not-false _ (c .before .before .before .before .before .if5 .left))) (Usual.Row _ _)
-    (refl, λ line. row-whole (start .args .columns) line (time .result .number) _ _ _ _ _ _ (c .before .before .before .value-under .ensures (time .result .number) (omega arith)) (c .before .before .value-under2 .ensures (time .result .number) (omega arith)) (c .value-under3 .ensures (time .result .number) (omega arith)) (c .before .if6 .left))
+    let next = c .before .before .before .before .before in
+    let cells = next .before .before .before .before in
+    let time = cells .before .before .before .before in
+    let columns = time .before .before .before .before .before .before .before .before .args .columns in
+    let seconds = time .time-end .given .0 .1 .0 in
+    let named = time .before .before .before .before .powers-named .ensures (not-false _ (time .before .before .before .if2 .left)) in
+    powers-line columns (textIn time) (placeIn time) (time .time-end .given .0 .0) (cells .cells-end .given .0 .0) seconds (cells .cells-end .given .0 .1 .0) (next .next .given .0 .0) named (room time) (time-read time) (powers-read cells) (end-read next) (Usual.Row _ _)
+    (refl, λ line. row-whole columns line seconds _ _ _ _ _ _ (c .before .before .before .value-under .ensures seconds (omega arith)) (c .before .before .value-under2 .ensures seconds (omega arith)) (c .value-under3 .ensures seconds (omega arith)) (c .before .if3 .left))
 
 pub usual-row-spec : {M : Type 1} → statement M
 usual-row-spec =
@@ -124,15 +155,18 @@ usual-row-spec =
     returns
     powers-named-requires
     returns-2
-    digits-from-requires
+    time-from-requires
+    enum-known-time-end
+    enum-told
     returns-3
     powers-after-requires
+    enum-known-cells-end
+    enum-told-2
     returns-4
     end-from-requires
+    enum-known-next
+    enum-told-3
     returns-5
-    array-read-t18
-    array-read-t21
-    array-read-t24
     value-under-requires
     value-under-requires-2
     returns-6
