@@ -113,6 +113,8 @@ callEdges =
     ∷ (calls (1 ∷ 4 ∷ 3 ∷ []) (eighth Off 0) (float 10) is 2)
     ∷ (calls (1 ∷ 3 ∷ 4 ∷ 8 ∷ 2 ∷ []) (eighth Off 0) (float 10) is 4)
     ∷ (calls (255 ∷ 3 ∷ 7 ∷ []) (eighth Off 1) (float 100) is 3)
+    -- the least rating, 1 W, is a capacity too
+    ∷ (calls (1 ∷ []) (eighth Off 0) (float 10) is 1)
     -- "none of its sets is due (interval > 0, clock >= interval) or in Service": of set 8 at clock 0 and 1
     ∷ (calls (128 ∷ 255 ∷ 3 ∷ []) (eighth Off 0) (float 1) is 1)
     ∷ (calls (128 ∷ 255 ∷ 3 ∷ []) (eighth Off 1) (float 1) is 3)

@@ -165,6 +165,8 @@ commandEdges =
     ∷ (commanded 5 (Cooling 7) On (Service 9) Off Off shows 3 ∷ 7 ∷ 3 ∷ 4 ∷ 2 ∷ 0 ∷ 3 ∷ 4 ∷ 4 ∷ 9 ∷ 3 ∷ 4 ∷ 0 ∷ 0 ∷ 3 ∷ 4 ∷ 0 ∷ 0 ∷ 3 ∷ 4 ∷ [])
     -- "0 calls no set": then every called set is On
     ∷ (commanded 0 On (Warming 2) Off (Cooling 1) On shows 3 ∷ 21 ∷ 3 ∷ 5 ∷ 0 ∷ 0 ∷ 3 ∷ 5 ∷ 0 ∷ 0 ∷ 3 ∷ 4 ∷ 3 ∷ 1 ∷ 3 ∷ 4 ∷ 3 ∷ 28 ∷ 3 ∷ 5 ∷ [])
+    -- a bit past the eight places is no called set, and holds none On
+    ∷ (commanded 257 On On Off Off Off shows 2 ∷ 0 ∷ 3 ∷ 4 ∷ 3 ∷ 22 ∷ 3 ∷ 5 ∷ 0 ∷ 0 ∷ 3 ∷ 4 ∷ 0 ∷ 0 ∷ 3 ∷ 4 ∷ 0 ∷ 0 ∷ 3 ∷ 4 ∷ [])
     -- of a start and a stop, no other number moves
     ∷ (stateNumbers (getD (commandedAll sets (state Off 9 ∷ []) 1) 0 (state On 0)) shows 1 ∷ 11 ∷ 100 ∷ 9 ∷ 4 ∷ 4 ∷ 500 ∷ 600 ∷ [])
     ∷ (stateNumbers (getD (commandedAll sets (state On 9 ∷ []) 0) 0 (state On 0)) shows 3 ∷ 21 ∷ 100 ∷ 9 ∷ 3 ∷ 5 ∷ 500 ∷ 600 ∷ [])
