@@ -15,31 +15,43 @@ TABLE_AFTER = '## The public calls'
 WITHOUT_ENSURES = {'run_passes::program::run_program'}
 
 
-def public_functions(module, text):
-    """(name with its module, parameters, the text from its name to its body) of each public function"""
-    found = []
-    for m in re.finditer(r'^[ \t]*pub (?:extern "C" )?fn (\w+)\(([^)]*)\)', text, re.M):
-        # a contract ends where the body begins: a line that is `{` alone, or ends with it outside a contract's clause
-        head = []
-        for line in text[m.end():].split('\n'):
-            clause = re.match(r'\s*(requires|ensures)\b', line)
-            if line.strip() == '{' or (line.rstrip().endswith(('{', '}')) and not clause):
+def contract_of(text, at):
+    """what stands from a place on up to the function's body: the words of its clauses, and the rest, which is what it answers"""
+    clauses, rest = [], ''
+    while at < len(text) and text[at] != '{':
+        clause = re.match(r'(requires|ensures)\b[^{]*', text[at:])
+        if not clause:
+            rest, at = rest + text[at], at + 1
+            continue
+        clauses.append(clause.group(1))
+        at, depth = at + clause.end(), 0
+        while at < len(text):
+            depth += {'{': 1, '}': -1}.get(text[at], 0)
+            at += 1
+            if depth == 0:
                 break
-            head.append(line)
+    return clauses, rest
+
+
+def public_functions(module, text):
+    """of each public function its name with its module, the names of its parameters, the parameters, its clauses, and what it answers"""
+    found = []
+    for m in re.finditer(r'^[ \t]*pub (?:extern "C" )?fn (\w+)(?:<[^>]*>)?\(([^)]*)\)', text, re.M):
         names = [p.split(':')[0].replace('mut ', '').strip() for p in m.group(2).split(',') if p.strip()]
         exported = 'extern "C"' in m.group(0)
-        found.append((m.group(1) if exported else module + '::' + m.group(1), names, m.group(2), '\n'.join(head), line))
+        clauses, rest = contract_of(text, m.end())
+        found.append((m.group(1) if exported else module + '::' + m.group(1), names, m.group(2), clauses, rest))
     return found
 
 
 def faults_of(functions, listed):
     """what is wrong with these functions, by the names that the table lists"""
     told = []
-    for name, names, parameters, head, last in functions:
-        if re.search(r'^\s*requires\b', head, re.M):
+    for name, names, parameters, clauses, rest in functions:
+        if 'requires' in clauses:
             told.append('%s has a `requires`' % name)
-        silent = '->' not in head + last and '&mut' not in parameters
-        if not re.search(r'^\s*ensures\b', head, re.M) and not silent and name not in WITHOUT_ENSURES:
+        silent = '->' not in rest and not re.search(r"&('\w+ )?mut\b", parameters)
+        if 'ensures' not in clauses and not silent and name not in WITHOUT_ENSURES:
             told.append('%s has no `ensures`' % name)
         if name not in listed:
             told.append('%s is not in the table of public calls' % name)
@@ -90,6 +102,11 @@ def must_tell():
         ('pub fn twice(x: u32) -> u64 {\n    2 * (x as u64)\n}\n', table, ['c::m::twice has no `ensures`']),
         ('pub fn fill(out: &mut [u8]) {\n}\n', {'c::m::fill': ['out']}, ['c::m::fill has no `ensures`']),
         ('pub fn fill(out: &mut [u8])\n{\n    ensures();\n}\n', {'c::m::fill': ['out']}, ['c::m::fill has no `ensures`']),
+        # a clause over two lines hides none after it, braces in a clause are the clause's, and a lifetime hides no function
+        (right.replace('2 * x ⌝ }', '2\n        * x ⌝ }\n    requires { ⌜ x < 9 ⌝ }'), table, ['c::m::twice has a `requires`']),
+        (right.replace('r ≡ 2 * x', 'r ≡ record { v = x } .v'), table, []),
+        ("pub fn part<'a>(s: &'a [u8]) -> &'a [u8] {\n    s\n}\n", {'c::m::part': ['s']}, ['c::m::part has no `ensures`']),
+        ("pub fn fill<'a>(out: &'a mut [u8]) {\n}\n", {'c::m::fill': ['out']}, ['c::m::fill has no `ensures`']),
         (right, {}, ['c::m::twice is not in the table of public calls']),
         (right, {'c::m::twice': ['y']}, ['c::m::twice has the parameters (x), and (y) in the table of public calls']),
         ('', table, ['c::m::twice is in the table of public calls, and no public function']),
@@ -117,7 +134,7 @@ def main():
         print('public_calls.py: ' + fault, file=sys.stderr)
     if told or not functions:
         sys.exit(1)
-    silent = sum(1 for f in functions if not re.search(r'^\s*ensures\b', f[3], re.M))
+    silent = sum(1 for f in functions if 'ensures' not in f[3])
     print('public calls: %d, none with a requires; %d ensure something, %d answer nothing; all in the table; %d cases of the test itself' % (len(functions), len(functions) - silent, silent, cases))
 
 
