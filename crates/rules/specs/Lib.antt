@@ -19,6 +19,7 @@ pub mod RunRecord
 pub mod Row
 pub mod Second
 pub mod Calls
+pub mod Seconds
 pub mod Sizing
 pub mod Run
 pub mod RefusalTables

@@ -46,3 +46,13 @@ pub enum Outcome {
     Row(usize),
     Refused(Refusal),
 }
+
+// Why a call of many seconds worked no more of them. None of these is a refusal of document 01: whoever wants the number of a second
+// that the rules refuse asks for that second alone.
+pub enum Ended {
+    AllWorked,
+    // the rows lent have no place for the next one
+    NoRoom,
+    // the rules refuse the next one
+    BeforeRefused,
+}

@@ -1,4 +1,5 @@
 // The run's record, by value, and what a second works out.
+use crate::answers::Ended;
 use crate::answers::Outcome;
 
 // A set's mode, with the seconds that it still has.
@@ -95,7 +96,7 @@ pub struct Row {
     // how many sets that is
     pub sets: u32,
     // called configuration after the second
-    pub call: u32,
+    pub call: usize,
     // store after the second
     pub store: u64,
 }
@@ -110,4 +111,11 @@ pub struct Step {
 pub struct Handed {
     pub answer: Outcome,
     pub run: Run,
+}
+
+// What a call of many seconds answers: the record after those worked, how many they are, and why they are no more.
+pub struct Worked {
+    pub run: Run,
+    pub seconds: usize,
+    pub ended: Ended,
 }
