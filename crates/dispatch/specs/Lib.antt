@@ -1,11 +1,3 @@
--- What the steps inside a second may take for granted, and many seconds in one call.
-pub mod Sized
+-- The steps of a second for whatever is handed in, and many seconds in one call.
+pub mod InType
 pub mod Parts
-pub mod Lasting
-pub mod Quiet
-pub mod CurveTable
-pub mod Supply
-pub mod Commit
-pub mod Seconds
-pub mod Going
-pub mod QuietSecond
