@@ -1,5 +1,6 @@
 // Steps 2 and 6: the capacity of a mask, and what each of its sets takes of the diesel power.
 ghost use mathlib.Core.Path.{_≡_};
+ghost use Prim.Native.Nat.{_≤_};
 ghost use Rattle.rules.specs.Numbers.{tab};
 ghost use Rattle.rules.specs.Share.{capacity, share};
 ghost use Rattle.gensets.specs.Leaves.{Shareable, sharesTold};
@@ -25,9 +26,10 @@ pub struct ShareAnswer {
     pub watts: [u32; 8],
 }
 
-// The ratings of the mask's sets, summed.
+// The ratings of the mask's sets, summed: eight of 32 bits at most.
 pub fn capacity(sets: [GenSet; 8], mask: u32) -> u64
     ensures { λ r. ⌜ r ≡ capacity sets mask ⌝ }
+    ensures { λ r. ⌜ r ≤ 34_359_738_360 ⌝ }
 {
     let mut sum: u64 = 0;
     let mut i = next_set(mask, 0);
