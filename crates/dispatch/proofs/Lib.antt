@@ -1,3 +1,6 @@
 -- Laws by subject, and what the functions' proofs share.
 pub mod PassedBy
 pub mod Fits
+pub mod StepsTaken
+pub mod Ready
+pub mod Ruled

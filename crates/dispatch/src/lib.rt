@@ -2,4 +2,5 @@
 mod commands;
 mod counts;
 pub mod parts;
+pub mod step;
 mod totals;
