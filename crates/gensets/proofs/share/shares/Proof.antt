@@ -33,6 +33,9 @@ returns-3 c =
     let none : s .diesel ≡ 0 = search needs in
     rw (← no-power (s .sets) (s .mask), none) (shared (s .sets) (s .mask) 0 (omega arith) (omega arith))
 
+cast-taken : tie.Need-cast-taken
+cast-taken c = search needs
+
 taken-requires : tie.Need-taken-requires
 taken-requires c κs = search needs
 
@@ -43,4 +46,4 @@ returns-4 c =
     rw (c .taken .ensures) (shared (s .sets) (s .mask) (s .diesel) (omega arith) (omega arith))
 
 pub shares-spec : {M : Type 1} → statement M
-shares-spec = tie.close (tie.spec capacity-requires returns returns-2 returns-3 taken-requires returns-4)
+shares-spec = tie.close (tie.spec capacity-requires returns returns-2 returns-3 cast-taken taken-requires returns-4)
