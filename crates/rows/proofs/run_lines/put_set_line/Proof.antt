@@ -5,6 +5,7 @@ use native.Mathlib.Omega.{arith}
 use denote.Ref.{now}
 use borrow.Author.Needs.{needs}
 use Rattle.rows.specs.SetLine.{setLine}
+use Rattle.rows.proofs.Lengths.{set-line-most}
 use Rattle.rows.proofs.Texts.{goes-on}
 use Rattle.rows.proofs.RowInBuffer.{text-refused, text-written}
 use Rattle.rows.proofs.run_lines.put_set_line.Statement.{statement}
@@ -26,7 +27,11 @@ slice-aggregate-put-numbers : tie.Need-slice-aggregate-put-numbers
 slice-aggregate-put-numbers c = search needs
 
 put-numbers-requires : tie.Need-put-numbers-requires
-put-numbers-requires c κs = (omega arith, omega (arith, c .before .before .before .before .before .if1 .left))
+unfolding setLine
+put-numbers-requires c κs =
+    let a = c .before .before .before .before .before .before .before .args in
+    let most = set-line-most (a .number) (a .state) (omega arith, (omega arith, (omega arith, (omega arith, (omega arith, (omega arith, tt)))))) in
+    (omega arith, omega (arith, c .before .before .before .before .before .if1 .left, most))
 
 same-length : tie.Need-same-length
 same-length c = search needs
