@@ -40,6 +40,10 @@ shorter-most (x ∷ xs) ys h k =
 pub comma-line-most : (xs : List ℕ) → 1 ≤ length xs → AllBelow (2 ^ 64) xs → length (commaLine xs) ≤ 21 * length xs
 comma-line-most xs n h = omega (arith, line-length xs n, commaed-most xs h)
 
+-- where any such numbers have room, these do
+pub line-fits : (xs : List ℕ) (at room : ℕ) → 1 ≤ length xs → AllBelow (2 ^ 64) xs → at + 21 * length xs ≤ room → (1 ≤ length xs) × (at + length (commaLine xs) ≤ room)
+line-fits xs at room n h k = (n, omega (arith, comma-line-most xs n h, k))
+
 all-below : (n : ℕ) (xs : List ℕ) → ((i : ℕ) → getD xs i 0 < n) → AllBelow n xs
 all-below n [] h = tt
 all-below n (x ∷ xs) h = (h 0, all-below n xs (λ i. h (suc i)))

@@ -15,13 +15,13 @@ length-ended number after = length-append (decimal number) (after ∷ [])
 
 -- ---- the line as the code writes it
 
-pub commaed-append : (xs ys : List ℕ) → commaed (xs ++ ys) ≡ commaed xs ++ commaed ys
+commaed-append : (xs ys : List ℕ) → commaed (xs ++ ys) ≡ commaed xs ++ commaed ys
 unfolding commaed
 commaed-append [] ys = refl
 commaed-append (x ∷ xs) ys = rw (commaed-append xs ys, append-assoc)
 
 -- one number more
-pub commaed-step : (xs : List ℕ) (i : ℕ) → i < length xs → commaed (take (i + 1) xs) ≡ commaed (take i xs) ++ ended (getD xs i 0) comma
+commaed-step : (xs : List ℕ) (i : ℕ) → i < length xs → commaed (take (i + 1) xs) ≡ commaed (take i xs) ++ ended (getD xs i 0) comma
 unfolding commaed
 commaed-step xs i h =
     rw (add-one i, take-suc xs i 0 h) (commaed-append (take i xs) (getD xs i 0 ∷ []) ∙ ap (λ (t : List ℕ). commaed (take i xs) ++ t) (append-nil (ended (getD xs i 0) comma)))
@@ -32,7 +32,7 @@ commaed-on before xs i h =
     append-assoc before (commaed (take i xs)) (ended (getD xs i 0) comma) ∙ ap (λ (t : List ℕ). before ++ t) (sym (commaed-step xs i h))
 
 -- the last number, with LF after it
-pub line-ends : (xs : List ℕ) (x : ℕ) → commaLine (xs ++ (x ∷ [])) ≡ commaed xs ++ ended x LF
+line-ends : (xs : List ℕ) (x : ℕ) → commaLine (xs ++ (x ∷ [])) ≡ commaed xs ++ ended x LF
 unfolding commaLine commaed ended
 line-ends [] x = refl
 line-ends (y ∷ []) x = simp append-assoc

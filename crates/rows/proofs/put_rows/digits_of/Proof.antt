@@ -1,6 +1,6 @@
 -- `digits_of` meets its contract. The invariant: the digits counted and those of what is left are one more than the number has. Assumes nothing.
-use Prim.Native.Nat.{_+_, _/_, _^_, _≤_, _<_}
-use mathlib.Core.Path.{_≡_, refl, ap}
+use Prim.Native.Nat.{_+_, _^_, _<_}
+use mathlib.Core.Path.{_≡_, ap}
 use native.Mathlib.Omega.{arith}
 use lib.ListN.{length}
 use Rattle.rules.specs.Bytes.{decimal}

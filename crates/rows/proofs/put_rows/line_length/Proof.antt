@@ -1,12 +1,11 @@
 -- `line_length` meets its contract. The invariant: the length of the numbers so far, each with its comma, at most 21 bytes each. Assumes nothing.
-use Prim.Native.Nat.{ℕ, _+_, _*_, _-_, _^_, _≤_, _<_}
+use Prim.Native.Nat.{ℕ, _*_, _-_, _^_, _≤_, _<_}
 use mathlib.Core.Path.{_≡_, refl}
 use native.Mathlib.Omega.{arith}
 use lib.ListN.{length, take, getD}
 use lib.Seq.{take-all}
 use denote.Ref.{now}
 use borrow.Author.Needs.{needs}
-use Rattle.rules.specs.Bytes.{decimal}
 use Rattle.rules.proofs.Decimals.{digits-64}
 use Rattle.rows.specs.Written.{commaed}
 use Rattle.rows.proofs.Lines.{length-step, line-length}

@@ -125,6 +125,7 @@ add-result c =
     let room = last-room (now (a .numbers)) (l .i) (a .at) (l .end) (length (l .buffer)) (omega (arith, l .inv .1)) (omega (arith, l .inv .1, l .inv .0, c .before .before .before .before .before .loop-test .left)) (l .inv .4) (omega (arith, l .inv .2, l .inv .3)) in
     omega (arith, room, c .before .before .put-long-decimal .ensures .0)
 
+-- by way of the buffer as the loop leaves it
 as-long : {n k : ℕ} (m : ℕ) → m ≡ k → n ≡ m → n ≡ k
 as-long m e f = f ∙ e
 
