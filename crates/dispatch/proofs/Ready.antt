@@ -78,7 +78,7 @@ within-of true g s done h = from-rules g s done (both (modePossible g (s .mode))
 within-of false g s done h = zero-within g s done (both (isOff (s .mode)) (allZero (s .run ∷ s .clock ∷ s .starts ∷ s .stops ∷ s .energy ∷ s .fuel ∷ [])) h .1)
 
 -- a set that the station has not is Off
-unused-off : (g : GenSet) (s : SetState) (done : ℕ) → statePossible false g s done ≡ true → s .mode ≡ Off
+pub unused-off : (g : GenSet) (s : SetState) (done : ℕ) → statePossible false g s done ≡ true → s .mode ≡ Off
 unfolding statePossible
 unused-off g s done h = off-only (s .mode) (both (isOff (s .mode)) (allZero (s .run ∷ s .clock ∷ s .starts ∷ s .stops ∷ s .energy ∷ s .fuel ∷ [])) h .0)
 
@@ -88,7 +88,7 @@ module _ (st : Station) (given : someFileGives st ≡ true) (r : Run) (p : possi
   unfolding possible
   asked-of i = all-at (recordRules st r) i p
 
-  at-place : (i : ℕ) → i < 8 → statePossible (ltb i (st .setcount)) (setAt (st .sets) i) (stateAt (r .sets) i) (r .done) ≡ true
+  pub at-place : (i : ℕ) → i < 8 → statePossible (ltb i (st .setcount)) (setAt (st .sets) i) (stateAt (r .sets) i) (r .done) ≡ true
   unfolding statesPossible
   at-place i l = to-at (λ j. statePossible (ltb j (st .setcount)) (setAt (st .sets) j) (stateAt (r .sets) j) (r .done)) 8 (asked-of 4) i l
 

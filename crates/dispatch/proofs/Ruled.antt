@@ -138,7 +138,7 @@ module _ (st : Station) (tables : Tables st) (caps : List ℕ) (rated : Rated (s
   unfolding capIn
   cap-ruled = omega (arith, cap-most st tables r x h)
 
-  watts-ruled : wattsIn st r x ≡ w
+  pub watts-ruled : wattsIn st r x ≡ w
   unfolding wattsIn wattsNow
   watts-ruled = rw cap-ruled
 
@@ -186,7 +186,7 @@ module _ (st : Station) (tables : Tables st) (caps : List ℕ) (rated : Rated (s
   unfolding ranNow countedAll stateAt
   at-place i l = tab-at countedNow 8 i (fresh Off) l
 
-  ran-switches : (i : ℕ) → i < 8 → (stateAt (ranNow st r w) i .starts ≤ mostSeconds) × (stateAt (ranNow st r w) i .stops ≤ mostSeconds)
+  pub ran-switches : (i : ℕ) → i < 8 → (stateAt (ranNow st r w) i .starts ≤ mostSeconds) × (stateAt (ranNow st r w) i .stops ≤ mostSeconds)
   unfolding ranNow countedAll
   ran-switches i l =
       let is : stateAt (ranNow st r w) i ≡ countedNow i = at-place i l in

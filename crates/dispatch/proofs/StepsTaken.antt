@@ -51,7 +51,7 @@ module _ (st : Station) (caps : List ℕ) (before : List SetState) (m₀ : Momen
     unfolding floorNow
     floor-now = least ∙ ap (floorLoad st) on-now
 
-    watts-in : m .watts ≡ wattsIn st r x
+    pub watts-in : m .watts ≡ wattsIn st r x
     unfolding wattsIn
     watts-in = met .watts ∙ rw (cap-in, floor-now, first)
 

@@ -88,8 +88,17 @@ module _ {st : Station} {r : Run} {xs : List Inputs} {lent : List ℕ} {n : ℕ}
 
 -- ---- one second
 
+abbrev pub headOr : Inputs → List Inputs → Inputs
+headOr x [] = x
+headOr x (y ∷ ys) = y
+
 pub next-admitted : {st : Station} {r : Run} {x : Inputs} {xs : List Inputs} → Admits st r (x ∷ xs) → Admitted st r x
 next-admitted (more h rest) = h
+
+-- the first of some
+pub first-admitted : {st : Station} {r : Run} {xs : List Inputs} → Admits st r xs → 0 < length xs → (x : Inputs) → Admitted st r (headOr x xs)
+first-admitted none l x = absurd (omega arith)
+first-admitted (more h rest) l x = h
 
 pub others-admitted : {st : Station} {r : Run} {x : Inputs} {xs : List Inputs} → Admits st r (x ∷ xs) → Admits st (step st r x .run) xs
 others-admitted (more h rest) = rest

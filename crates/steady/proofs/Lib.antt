@@ -4,3 +4,7 @@ pub mod SteadyLaws
 pub mod CurveFilled
 pub mod CurveRead
 pub mod Adding
+pub mod SteadySteps
+pub mod Walking
+pub mod SteadyEnds
+pub mod Fillable

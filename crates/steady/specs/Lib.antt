@@ -2,3 +2,4 @@
 pub mod NextEvent
 pub mod Steady
 pub mod CurveTable
+pub mod SteadySecond

@@ -1,0 +1,78 @@
+// The eleven steps of a steady second: those whose answer follows from the modes alone were taken before.
+ghost use mathlib.Core.Path.{_≡_};
+ghost use Prim.Native.Nat.{_+_};
+ghost use lib.ListN.{length};
+ghost use Rattle.laws.specs.Admitted.{Admitted};
+ghost use Rattle.commitment.specs.Choice.{Rated};
+ghost use Rattle.steady.specs.NextEvent.{NoEvent};
+ghost use Rattle.steady.specs.CurveTable.{Tabled};
+ghost use Rattle.steady.specs.SteadySecond.{Kept, standing, SteadyStepped};
+use crate::steady_counts::count_steady;
+use commitment::commit::commit;
+use dispatch::parts::Moment;
+use dispatch::parts::moment_after;
+use dispatch::parts::row_of;
+use flows::amounts::decide;
+use flows::amounts::oldest;
+use flows::meet::meet_load;
+use rules::run::Inputs;
+use rules::run::Row;
+use rules::run::SetState;
+use rules::station::Station;
+
+// What stays the same until the next event: the masks of the sets On and of those called, the capacity and the floor load of the sets
+// On, the sets that are due or in Service, and all states as they were.
+pub(crate) struct Steady {
+    pub(crate) on: u32,
+    pub(crate) called: u32,
+    pub(crate) cap: u32,
+    pub(crate) floor: u64,
+    pub(crate) barred: u32,
+    pub(crate) states: [SetState; 8],
+}
+
+// Where a stretch of steady seconds stands: the record but for its arrays, and how many seconds it has.
+pub(crate) struct Stretch {
+    pub(crate) steady: Steady,
+    pub(crate) moment: Moment,
+    pub(crate) ran: usize,
+}
+
+// What a second comes to beside the arrays.
+pub(crate) struct Gone {
+    pub(crate) moment: Moment,
+    pub(crate) row: Row,
+}
+
+pub(crate) fn steady_step(
+    st: Station,
+    caps: &[u32; 64],
+    stretch: Stretch,
+    inputs: Inputs,
+    decided: &mut [u32],
+    energies: &mut [u64],
+    fuels: &mut [u64],
+    sums: &[u64; 8],
+    lines: &[u64; 160],
+) -> Gone
+    requires { ⌜ Kept st (stretch .steady) × NoEvent (st .sets) (stretch .steady .states) (stretch .ran + 1) × Admitted st (standing stretch (now energies) (now fuels) (now decided)) inputs × Rated (st .sets) (st .configs) (now caps) × (length (now decided) ≡ 60) × (length (now energies) ≡ 8) × (length (now fuels) ≡ 8) × Tabled (st .sets) (stretch .steady .on) (now sums) (now lines) ⌝ }
+    ensures { λ r. ⌜ SteadyStepped st stretch (standing stretch (now (energies .entry)) (now (fuels .entry)) (now (decided .entry))) inputs r (now (energies .exit)) (now (fuels .exit)) (now (decided .exit)) ⌝ }
+{
+    let steady = stretch.steady;
+    let moment = stretch.moment;
+    let sets = st.sets;
+    let on = steady.on;
+    let met = meet_load(st, moment.store, steady.cap, steady.floor, oldest(decided), inputs);
+    let watts = met.watts;
+    decide(st.control.delay, met.decided, decided);
+    count_steady(sets, sums, lines, on, watts.diesel, steady.cap as u64, energies, fuels);
+    let setpoint = moment.setpoint;
+    let done = moment.done;
+    let called = moment.called;
+    let chosen = commit(st, caps, steady.barred, setpoint, called, moment.since, done, watts, inputs.sheddable);
+    let call = chosen.call;
+    Gone {
+        moment: moment_after(moment, call, chosen.held, met.store, watts),
+        row: row_of(done, watts, on, call, met.store),
+    }
+}

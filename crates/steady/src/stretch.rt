@@ -1,0 +1,66 @@
+// The seconds from a place on: the steady ones up to the next event, or the one second in which a set changes its mode.
+ghost use mathlib.Core.Path.{_≡_};
+ghost use Rattle.steady.specs.SteadySecond.{Workable, GoesOn};
+use crate::steady_seconds::Went;
+use crate::steady_seconds::kept;
+use crate::steady_seconds::steady_for;
+use crate::steady_seconds::steady_seconds;
+use commitment::configuration::mask_called;
+use dispatch::inputs::first_inputs;
+use dispatch::parts::Moment;
+use dispatch::step::step;
+use rows::row_numbers::put_row_numbers;
+use rules::run::SetState;
+use rules::station::Station;
+use words::arithmetic::lesser;
+
+// Numbers in a second's inputs.
+const INPUTS: usize = 3;
+
+// One second by its eleven steps.
+fn one_second(
+    st: Station,
+    caps: &[u32; 64],
+    states: [SetState; 8],
+    moment: Moment,
+    inputs: &[u32],
+    decided: &mut [u32],
+    rows: &mut [u64],
+) -> Went
+    requires { ⌜ Workable st states moment (now caps) (now inputs) (now decided) (now rows) ⌝ }
+    ensures { λ r. ⌜ GoesOn st states moment (now (inputs .entry)) (now (decided .entry)) (now (rows .entry)) r (now (decided .exit)) (now (rows .exit)) ⌝ }
+{
+    let x = first_inputs(inputs);
+    let stepped = step(st, caps, states, moment, x, decided);
+    let after = stepped.moment;
+    let left = stepped.states;
+    let row = stepped.row;
+    put_row_numbers(row, rows);
+    Went {
+        moment: after,
+        states: left,
+        seconds: 1,
+    }
+}
+
+pub(crate) fn stretch_from(
+    st: Station,
+    caps: &[u32; 64],
+    states: [SetState; 8],
+    moment: Moment,
+    inputs: &[u32],
+    decided: &mut [u32],
+    rows: &mut [u64],
+) -> Went
+    requires { ⌜ Workable st states moment (now caps) (now inputs) (now decided) (now rows) ⌝ }
+    ensures { λ r. ⌜ GoesOn st states moment (now (inputs .entry)) (now (decided .entry)) (now (rows .entry)) r (now (decided .exit)) (now (rows .exit)) ⌝ }
+{
+    let configs = st.configs;
+    let called = mask_called(configs, moment.called);
+    let most = lesser(steady_for(st, states, called), inputs.len() / INPUTS);
+    if most == 0 {
+        return one_second(st, caps, states, moment, inputs, decided, rows);
+    }
+    let steady = kept(st, states, called);
+    steady_seconds(st, caps, steady, moment, &inputs[..INPUTS * most], decided, rows)
+}
