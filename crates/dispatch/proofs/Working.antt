@@ -4,8 +4,8 @@ use mathlib.Core.Path.{_≡_, refl, sym, ap, _∙_, subst}
 use mathlib.Core.List.{List, [], _∷_, _++_, append-assoc, append-nil}
 use native.Mathlib.Omega.{arith}
 use lib.Dec.{leb}
-use lib.ListN.{length, take, drop, length-append, length-drop}
-use lib.Seq.{drop-drop, drop-length, take-add, drop-at, take-at, length-take-le}
+use lib.ListN.{length, take, drop, length-append, length-take, length-drop}
+use lib.Seq.{drop-drop, drop-length, take-take, take-add, drop-at, take-at, length-take-le}
 use borrow.Author.Tests.{le-leb}
 use Rattle.rules.specs.declared.station.Station.{Station}
 use Rattle.rules.specs.declared.run.Inputs.{Inputs}
@@ -112,6 +112,33 @@ works-one st r x xs lent h l = record {
   admits = others-admitted h;
   most = omega arith;
 }
+
+-- ---- some of the seconds
+
+pub admits-after : {st : Station} {r : Run} {xs : List Inputs} (n : ℕ) → Admits st r xs → n ≤ length xs → Admits st (runAfter st (take n xs) r) (drop n xs)
+unfolding runAfter
+admits-after zero h l = h
+admits-after (suc n) none l = absurd (omega arith)
+admits-after (suc n) (more h rest) l = admits-after n rest (omega arith)
+
+pub admits-first : {st : Station} {r : Run} {xs : List Inputs} (n : ℕ) → Admits st r xs → Admits st r (take n xs)
+admits-first zero h = none
+admits-first (suc n) none = none
+admits-first (suc n) (more h rest) = more h (admits-first n rest)
+
+-- work on the first m of them is work on all
+pub works-within : {st : Station} {r : Run} {xs : List Inputs} {lent : List ℕ} {n : ℕ} {r′ : Run} {rows : List ℕ} (m : ℕ) → Admits st r xs → Works st r (take m xs) lent n r′ rows → Works st r xs lent n r′ rows
+works-within {st} {r} {xs} {lent} {n} {r′} {rows} m h k =
+    let few : n ≤ m = omega (arith, k .most, length-take m xs) in
+    let all : n ≤ length xs = omega (arith, k .most, length-take m xs) in
+    let same : take n (take m xs) ≡ take n xs = take-take n m xs few in
+    let after : r′ ≡ runAfter st (take n xs) r = k .after ∙ ap (λ (l : List Inputs). runAfter st l r) same in
+    record {
+      after = after;
+      numbers = k .numbers ∙ ap (λ (l : List Inputs). numbersOf (rowsOf st l r) ++ drop (13 * n) lent) same;
+      admits = subst (λ (z : Run). Admits st z (drop n xs)) (sym after) (admits-after n h all);
+      most = all;
+    }
 
 -- ---- the rest of the rows that was lent, and the rows when it has come back
 

@@ -70,6 +70,10 @@ fewer-lasts g s most seconds h l =
 pub fewer : (sets : List GenSet) (states : List SetState) (most seconds : ℕ) → NoEvent sets states most → seconds ≤ most → NoEvent sets states seconds
 fewer sets states most seconds h l = record { each = λ i k. fewer-lasts _ _ most seconds (h .each i k) l }
 
+-- no event comes at once
+pub none-at-once : (sets : List GenSet) (states : List SetState) → NoEvent sets states 0
+none-at-once sets states = record { each = λ i l. record { most = omega arith; mode-lasts = omega arith; not-due = λ on d. omega arith } }
+
 -- ---- the tick
 
 -- a set On does not tick
