@@ -19,6 +19,11 @@ use rules::station::Station;
 // Seconds in a batch: their numbers stay in the processor's first cache, and the text of any rows has room in 65,536 bytes.
 const BATCH: u32 = 384;
 
+// Numbers in a row, and in a second's inputs.
+const COLUMNS: usize = 13;
+
+const INPUTS: usize = 3;
+
 // The record, the seconds and the rows' bytes so far, and whether a refusal ended them.
 pub(crate) struct Tally {
     pub(crate) run: Run,
@@ -78,20 +83,17 @@ fn work_batch(st: Station, run: Run, count: usize, rows: &mut [u64]) -> Worked
 {
     let mut inputs = [0u32; 1_152];
     put_inputs(run.done, count, &mut inputs);
-    let end = 3 * count;
+    let end = INPUTS * count;
     seconds(st, run, &inputs[..end], rows)
 }
 
 // The text of the first rows: its length.
 fn put_text(rows: &[u64], count: usize, text: &mut [u8]) -> usize {
-    // never taken: no more seconds are worked than a batch has, and the rows have a place for each
-    if 384 < count {
+    // never taken: the rows have a place for each second that was worked
+    if rows.len() / COLUMNS < count {
         return 0;
     }
-    let end = 13 * count;
-    if rows.len() < end {
-        return 0;
-    }
+    let end = COLUMNS * count;
     put_rows(&rows[..end], text).bytes
 }
 

@@ -11,9 +11,6 @@ returns c = search needs
 mul-end : tie.Need-mul-end
 mul-end c = search needs
 
-returns-2 : tie.Need-returns-2
-returns-2 c = search needs
-
 slice-aggregate-put-rows : tie.Need-slice-aggregate-put-rows
 slice-aggregate-put-rows c = simp length-take (omega arith)
 
@@ -23,8 +20,8 @@ put-rows-requires c κs = search needs
 same-length : tie.Need-same-length
 same-length c = search needs
 
-returns-3 : tie.Need-returns-3
-returns-3 c = search needs
+returns-2 : tie.Need-returns-2
+returns-2 c = search needs
 
 pub put-text-spec : {M : Type 1} → statement M
 put-text-spec =
@@ -32,8 +29,7 @@ put-text-spec =
     (tie.spec
     returns
     mul-end
-    returns-2
     slice-aggregate-put-rows
     put-rows-requires
     same-length
-    returns-3)
+    returns-2)
