@@ -154,7 +154,7 @@ module _ (st : Station) (r : Run) (inputs lent : List ℕ) (n : ℕ) (is : n ≡
   pub all-worked : (w : Worked) (left : List ℕ) → Works st r (inputsEach (take (3 * n) inputs)) lent n (w .run) left → w .seconds ≡ n → w .ended ≡ cameOf st r inputs lent .ended → Seconds st r inputs lent w left
   all-worked w left k count end =
       let same : take n (inputsEach (take (3 * n) inputs)) ≡ take (length (cameOf st r inputs lent .rows)) (inputsEach inputs) =
-          ap (take n) first-are ∙ take-take n n (inputsEach inputs) (omega arith) ∙ ap (λ (m : ℕ). take m (inputsEach inputs)) is
+      ap (take n) first-are ∙ take-take n n (inputsEach inputs) (omega arith) ∙ ap (λ (m : ℕ). take m (inputsEach inputs)) is
       in
       record {
         hands = k .after ∙ ap (λ (l : List Inputs). runAfter st l r) same ∙ sym (by .run-is);

@@ -44,7 +44,14 @@ pub fn step(
     let states = tick_all(sets, before);
     let on = on_mask(states);
     let cap = capacity_fitting(sets, on);
-    let met = meet_load(st, moment.store, cap, floor_load(st, on), oldest(decided), inputs);
+    let met = meet_load(
+        st,
+        moment.store,
+        cap,
+        floor_load(st, on),
+        oldest(decided),
+        inputs,
+    );
     let watts = met.watts;
     decide(st.control.delay, met.decided, decided);
     let ran = count_all(sets, states, on, watts.diesel);
@@ -52,7 +59,17 @@ pub fn step(
     let called = moment.called;
     let done = moment.done;
     let barred = barred_mask(sets, ran);
-    let chosen = commit(st, caps, barred, setpoint, called, moment.since, done, watts, inputs.sheddable);
+    let chosen = commit(
+        st,
+        caps,
+        barred,
+        setpoint,
+        called,
+        moment.since,
+        done,
+        watts,
+        inputs.sheddable,
+    );
     let call = chosen.call;
     let configs = st.configs;
     Stepped {

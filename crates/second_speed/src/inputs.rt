@@ -1,6 +1,6 @@
 // The inputs of each second, from its number alone: load and solar rise and fall over a station of some 170 kW, with a scatter, so
 // that sets start and stop. tests/speed_files.py has the same formulas, for the sheet that the reference is handed.
-ghost use Prim.Native.Nat.{_≤_};
+ghost use Prim.Native.Nat.{_*_, _≤_};
 ghost use lib.ListN.{length};
 use rules::run::Inputs;
 
@@ -57,23 +57,17 @@ pub(crate) fn inputs_of(second: u32) -> Inputs {
     }
 }
 
-// The inputs of `count` seconds from the first on.
-pub(crate) fn put_inputs(
-    first: u32,
-    count: usize,
-    loads: &mut [u32],
-    solars: &mut [u32],
-    sheddables: &mut [u32],
-)
-    requires { ⌜ count ≤ 1280 ⌝ }
-    requires { ⌜ (count ≤ length (now loads)) × (count ≤ length (now solars)) × (count ≤ length (now sheddables)) ⌝ }
+// The inputs of `count` seconds from the first on, three numbers for each.
+pub(crate) fn put_inputs(first: u32, count: usize, inputs: &mut [u32])
+    requires { ⌜ (count ≤ 384) × (3 * count ≤ length (now inputs)) ⌝ }
 {
     let mut i: usize = 0;
     while i < count {
-        let inputs = inputs_of(std::num::wrapping_add_u32(first, i as u32));
-        loads[i] = inputs.load;
-        solars[i] = inputs.solar;
-        sheddables[i] = inputs.sheddable;
+        let of_second = inputs_of(std::num::wrapping_add_u32(first, i as u32));
+        let at = 3 * i;
+        inputs[at] = of_second.load;
+        inputs[at + 1] = of_second.solar;
+        inputs[at + 2] = of_second.sheddable;
         i += 1;
     }
 }

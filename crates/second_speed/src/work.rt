@@ -1,6 +1,5 @@
 // The seconds worked: one call for each, or one for each batch.
 ghost use Prim.Native.Nat.{_≤_};
-ghost use lib.ListN.{length};
 use crate::inputs::inputs_of;
 use crate::inputs::put_inputs;
 use crate::output::wrote_start;
@@ -8,16 +7,22 @@ use crate::row_bytes::RowBytes;
 use crate::row_bytes::no_bytes;
 use crate::row_bytes::with_bytes;
 use dispatch::second::second;
-use dispatch::seconds::Worked;
 use dispatch::seconds::seconds;
+use rows::put_rows::put_rows;
+use rules::answers::Ended;
 use rules::answers::Outcome;
-use rules::answers::Refusal;
 use rules::answers::Verdict;
 use rules::run::Run;
+use rules::run::Worked;
 use rules::station::Station;
 
-// Seconds in a batch: rows of some 51 bytes fill its 65,536, so that some batches end for a full buffer and some do not.
-const BATCH: u32 = 1_280;
+// Seconds in a batch: their numbers stay in the processor's first cache, and the text of any rows has room in 65,536 bytes.
+const BATCH: u32 = 384;
+
+// Numbers in a row, and in a second's inputs.
+const COLUMNS: usize = 13;
+
+const INPUTS: usize = 3;
 
 // The record, the seconds and the rows' bytes so far, and whether a refusal ended them.
 pub(crate) struct Tally {
@@ -61,7 +66,7 @@ pub(crate) fn work_each(st: Station, first: Run, asked: u32) -> Tally {
 
 // How many seconds the next batch has; none where all are done.
 fn next_count(asked: u32, done: u32) -> usize
-    ensures { λ r. ⌜ r ≤ 1280 ⌝ }
+    ensures { λ r. ⌜ r ≤ 384 ⌝ }
 {
     if asked <= done {
         return 0;
@@ -73,55 +78,52 @@ fn next_count(asked: u32, done: u32) -> usize
     BATCH as usize
 }
 
-fn work_inputs(
-    st: Station,
-    run: Run,
-    count: usize,
-    loads: &mut [u32],
-    solars: &mut [u32],
-    sheddables: &mut [u32],
-    rows: &mut [u8],
-) -> Worked
-    requires { ⌜ count ≤ 1280 ⌝ }
-    requires { ⌜ (count ≤ length (now loads)) × (count ≤ length (now solars)) × (count ≤ length (now sheddables)) ⌝ }
+fn work_batch(st: Station, run: Run, count: usize, rows: &mut [u64]) -> Worked
+    requires { ⌜ count ≤ 384 ⌝ }
 {
-    put_inputs(run.done, count, loads, solars, sheddables);
-    seconds(
-        st,
-        run,
-        &loads[..count],
-        &solars[..count],
-        &sheddables[..count],
-        rows,
-    )
+    let mut inputs = [0u32; 1_152];
+    put_inputs(run.done, count, &mut inputs);
+    let end = INPUTS * count;
+    seconds(st, run, &inputs[..end], rows)
 }
 
-fn work_batch(st: Station, run: Run, count: usize, rows: &mut [u8]) -> Worked
-    requires { ⌜ count ≤ 1280 ⌝ }
-{
-    let mut loads = [0u32; 1280];
-    let mut solars = [0u32; 1280];
-    let mut sheddables = [0u32; 1280];
-    work_inputs(
-        st,
-        run,
-        count,
-        &mut loads,
-        &mut solars,
-        &mut sheddables,
-        rows,
-    )
-}
-
-// A full buffer ends a batch, and the next one goes on; any other refusal ends the run.
-fn ended_by(verdict: Verdict) -> Verdict {
-    let Verdict::Refused(refusal) = verdict else {
-        return Verdict::Accepted;
-    };
-    if let Refusal::RowBuffer = refusal {
-        return Verdict::Accepted;
+// The text of the first rows: its length.
+fn put_text(rows: &[u64], count: usize, text: &mut [u8]) -> usize {
+    // never taken: the rows have a place for each second that was worked
+    if rows.len() / COLUMNS < count {
+        return 0;
     }
-    Verdict::Refused(refusal)
+    let end = COLUMNS * count;
+    put_rows(&rows[..end], text).bytes
+}
+
+// What the rules answer to the second that comes next, asked of that second alone.
+fn next_verdict(st: Station, run: Run) -> Verdict {
+    let mut row = [0u8; 256];
+    let handed = second(st, run, inputs_of(run.done), &mut row);
+    let answer = handed.answer;
+    match answer {
+        Outcome::Row(_) => Verdict::Accepted,
+        Outcome::Refused(refusal) => Verdict::Refused(refusal),
+    }
+}
+
+fn verdict_of(st: Station, worked: Worked) -> Verdict {
+    let ended = worked.ended;
+    let run = worked.run;
+    if let Ended::BeforeRefused = ended {
+        return next_verdict(st, run);
+    }
+    Verdict::Accepted
+}
+
+fn none_worked(first: Run) -> Tally {
+    Tally {
+        run: first,
+        seconds: 0,
+        bytes: no_bytes(),
+        verdict: Verdict::Accepted,
+    }
 }
 
 fn goes_on(verdict: Verdict) -> bool {
@@ -131,32 +133,27 @@ fn goes_on(verdict: Verdict) -> bool {
     false
 }
 
-fn with_batch(before: Tally, worked: Worked, rows: &[u8]) -> Tally {
+fn with_batch(before: Tally, worked: Worked, verdict: Verdict, text: &[u8], size: usize) -> Tally {
     let run = worked.run;
-    let verdict = worked.verdict;
     let bytes = before.bytes;
     Tally {
         run,
         seconds: std::num::wrapping_add_u64(before.seconds, worked.seconds as u64),
-        bytes: with_bytes(bytes, rows, worked.bytes),
-        verdict: ended_by(verdict),
+        bytes: with_bytes(bytes, text, size),
+        verdict,
     }
 }
 
-// One batch after the other through one buffer; `shown` where the rows are written to standard output too.
+// One batch after the other through the same rows and one buffer for their text; `shown` where it is written to standard output too.
 pub(crate) fn work_many(
     st: Station,
     first: Run,
     asked: u32,
     shown: bool,
-    rows: &mut [u8],
+    text: &mut [u8],
 ) -> Tally {
-    let mut tally = Tally {
-        run: first,
-        seconds: 0,
-        bytes: no_bytes(),
-        verdict: Verdict::Accepted,
-    };
+    let mut rows = [0u64; 4_992];
+    let mut tally = none_worked(first);
     let mut turns = asked;
     while 0 < turns {
         turns -= 1;
@@ -165,15 +162,15 @@ pub(crate) fn work_many(
         if count == 0 {
             return tally;
         }
-        let worked = work_batch(st, run, count, rows);
-        let size = worked.bytes;
-        tally = with_batch(tally, worked, rows);
+        let worked = work_batch(st, run, count, &mut rows);
+        let size = put_text(&rows, worked.seconds, text);
+        let verdict = verdict_of(st, worked);
+        tally = with_batch(tally, worked, verdict, text, size);
         if shown {
-            if !wrote_start(rows, size) {
+            if !wrote_start(text, size) {
                 return tally;
             }
         }
-        let verdict = tally.verdict;
         if !goes_on(verdict) {
             return tally;
         }

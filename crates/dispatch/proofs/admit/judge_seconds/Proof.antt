@@ -28,7 +28,7 @@ judged : (st : Station) → Tables st → (r : Run) (inputs : List ℕ) (room : 
 unfolding admittedOf
 judged st tables r inputs room j e k =
     let count : j .seconds ≡ length (cameTo st r (inputsEach inputs) room .rows) =
-        e ∙ rw (← each-length inputs, enough-room (r .done) (inputsEach inputs) room) (sym (came-count st tables r (inputsEach inputs) room))
+    e ∙ rw (← each-length inputs, enough-room (r .done) (inputsEach inputs) room) (sym (came-count st tables r (inputsEach inputs) room))
     in
     record { counts = count; ends = k ∙ rw (count, ← each-length inputs) (sym (came-by st r (inputsEach inputs) room .ended-is)) }
 

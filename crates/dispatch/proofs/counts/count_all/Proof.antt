@@ -60,8 +60,7 @@ next-set-requires c κs = search needs
 
 loop-holds : tie.Need-loop-holds Inv-loop μ-loop
 loop-holds c =
-    let a = c .before .before .before .args in
-    (
+    let a = c .before .before .before .args in (
       ap (λ (s : ShareAnswer). s .watts) (c .before .before .shares .ensures),
       rw (c .next-set .ensures) (place (a .mask) 0 zero-le),
       rw (c .next-set .ensures) (up-to-next (a .t1) (a .states) (a .mask) (a .diesel) (a .states) 0 zero-le (filling-start _ _ 8 (search needs))),
@@ -111,8 +110,7 @@ unfolding setAt stateAt pastEnd
 loop-again c =
     let at = c .before .before .before .before .before .loop in
     let a = c .before .before .before .before .before .before .before .before .before .args in
-    let l : at .place < 8 = c .before .before .before .before .loop-test .taken in
-    (
+    let l : at .place < 8 = c .before .before .before .before .loop-test .taken in (
       at .inv .0,
       rw (c .next-set2 .ensures) (place (a .mask) (at .place + 1) (omega arith)),
       rw (c .next-set2 .ensures) (counted-more (a .t1) (a .states) (a .mask) (a .diesel) (at .out) (at .place) (at .inv .1) l (at .inv .2) _ (c .before .count .ensures ∙ rw (at .inv .0))),

@@ -1,16 +1,17 @@
--- `second_speed::inputs::put_inputs` is safe and ends. The arrays keep their lengths; the seconds that are left fall. Assumes nothing.
-use Prim.Native.Nat.{_-_, _≤_}
+-- `second_speed::inputs::put_inputs` is safe and ends. The numbers keep their length; the seconds that are left fall. Assumes nothing.
+use Prim.Native.Nat.{_-_, _*_, _≤_}
 use mathlib.Core.Path.{_≡_}
-use lib.ListN.{length}
+use native.Mathlib.Omega.{arith}
+use lib.ListN.{length, length-set}
 use borrow.Author.Needs.{needs}
 use Rattle.second_speed.proofs.inputs.put_inputs.Statement.{statement}
 use Rattle.second_speed.proofs.inputs.put_inputs.Tie as tie
 
 abbrev Inv-loop : tie.InvT-loop
-Inv-loop first count loads₀ solars₀ sheddables₀ i₀ loads solars sheddables i = (i ≤ count) × (count ≤ 1280) × (count ≤ length loads₀) × (count ≤ length solars₀) × (count ≤ length sheddables₀) × (length loads ≡ length loads₀) × (length solars ≡ length solars₀) × (length sheddables ≡ length sheddables₀)
+Inv-loop first count inputs₀ i₀ inputs i = (i ≤ count) × (count ≤ 384) × (3 * count ≤ length inputs₀) × (length inputs ≡ length inputs₀)
 
 abbrev μ-loop : tie.MeasureT-loop
-μ-loop first count loads₀ solars₀ sheddables₀ i₀ loads solars sheddables i = count - i
+μ-loop first count inputs₀ i₀ inputs i = count - i
 
 loop-holds : tie.Need-loop-holds Inv-loop μ-loop
 loop-holds c = search needs
@@ -24,23 +25,32 @@ wrapping-add-u32-requires c κs = search needs
 inputs-of-requires : tie.Need-inputs-of-requires Inv-loop μ-loop
 inputs-of-requires c κs = search needs
 
-mul-loads : tie.Need-mul-loads Inv-loop μ-loop
-mul-loads c = search needs
+mul-at : tie.Need-mul-at Inv-loop μ-loop
+mul-at c = search needs
 
-slice-write-loads : tie.Need-slice-write-loads Inv-loop μ-loop
-slice-write-loads c = search needs
+mul-inputs : tie.Need-mul-inputs Inv-loop μ-loop
+mul-inputs c = search needs
 
-mul-solars : tie.Need-mul-solars Inv-loop μ-loop
-mul-solars c = search needs
+slice-write-inputs : tie.Need-slice-write-inputs Inv-loop μ-loop
+slice-write-inputs c = search needs
 
-slice-write-solars : tie.Need-slice-write-solars Inv-loop μ-loop
-slice-write-solars c = search needs
+add-inputs : tie.Need-add-inputs Inv-loop μ-loop
+add-inputs c = search needs
 
-mul-sheddables : tie.Need-mul-sheddables Inv-loop μ-loop
-mul-sheddables c = search needs
+mul-inputs-2 : tie.Need-mul-inputs-2 Inv-loop μ-loop
+mul-inputs-2 c = search needs
 
-slice-write-sheddables : tie.Need-slice-write-sheddables Inv-loop μ-loop
-slice-write-sheddables c = search needs
+slice-write-inputs-2 : tie.Need-slice-write-inputs-2 Inv-loop μ-loop
+slice-write-inputs-2 c = simp length-set (omega arith)
+
+add-inputs-2 : tie.Need-add-inputs-2 Inv-loop μ-loop
+add-inputs-2 c = search needs
+
+mul-inputs-3 : tie.Need-mul-inputs-3 Inv-loop μ-loop
+mul-inputs-3 c = search needs
+
+slice-write-inputs-3 : tie.Need-slice-write-inputs-3 Inv-loop μ-loop
+slice-write-inputs-3 c = simp length-set (omega arith)
 
 add-i : tie.Need-add-i Inv-loop μ-loop
 add-i c = search needs
@@ -53,12 +63,6 @@ loop-again c = search needs
 
 same-length : tie.Need-same-length Inv-loop μ-loop
 same-length c = search needs
-
-same-length-2 : tie.Need-same-length-2 Inv-loop μ-loop
-same-length-2 c = search needs
-
-same-length-3 : tie.Need-same-length-3 Inv-loop μ-loop
-same-length-3 c = search needs
 
 returns : tie.Need-returns Inv-loop μ-loop
 returns c = search needs
@@ -73,16 +77,17 @@ put-inputs-spec =
     cast-wrapping-add-u32
     wrapping-add-u32-requires
     inputs-of-requires
-    mul-loads
-    slice-write-loads
-    mul-solars
-    slice-write-solars
-    mul-sheddables
-    slice-write-sheddables
+    mul-at
+    mul-inputs
+    slice-write-inputs
+    add-inputs
+    mul-inputs-2
+    slice-write-inputs-2
+    add-inputs-2
+    mul-inputs-3
+    slice-write-inputs-3
     add-i
     loop-less
     loop-again
     same-length
-    same-length-2
-    same-length-3
     returns)
