@@ -16,11 +16,11 @@ use Rattle.station.proofs.reader.read_station.Kinds as read-kinds
 use Rattle.records.specs.declared.start.Started.{Started}
 use Rattle.records.proofs.start.start.Reads as start-reads
 use Rattle.records.proofs.start.start.Kinds as start-kinds
-use Rattle.dispatch.specs.declared.seconds.Worked.{Worked}
 use Rattle.dispatch.proofs.second.second.Reads as second-reads
 use Rattle.dispatch.proofs.second.second.Kinds as second-kinds
 use Rattle.dispatch.proofs.seconds.seconds.Reads as seconds-reads
 use Rattle.dispatch.proofs.seconds.seconds.Kinds as seconds-kinds
+use Rattle.claims_rules.specs.Batches.{ManyCall}
 
 -- `station::reader::read_station` was handed a file, and gave g
 pub record ReadBy (file : List ℕ) (g : Reading) : Type 0 where
@@ -47,27 +47,18 @@ pub record CalledBy (st : Station) (r : Run) (c : Call) : Type 0 where
   pub returned : second-reads.Post κs args (c .handed) exit
   pub seen : now (exit .1 .1 .1 .0) ≡ c .left
 
--- what a call of many seconds is handed beside station and record, what it gives, and its buffer as it is left
-pub record ManyCall : Type 0 where
-  pub loads : List ℕ
-  pub solars : List ℕ
-  pub sheddables : List ℕ
-  pub lent : List ℕ
-  pub worked : Worked
-  pub left : List ℕ
-
--- `dispatch::seconds::seconds` was handed st, r and the call's inputs and buffer, and gave what the call has
+-- the call of many seconds was handed st, r and the call's inputs and rows, and gave what the call has
 pub record ManyBy (st : Station) (r : Run) (m : ManyCall) : Type 0 where
-  pub κs : Lfts 4
+  pub κs : Lfts 2
   pub args : kinds.Dens κs seconds-kinds.ps
-  pub exit : clauses.AtExit (kinds.endedOf 4 seconds-kinds.ps seconds-kinds.r) κs
-  pub passed : (args .0 ≡ st) × (args .1 .0 ≡ r) × (now (args .1 .1 .0) ≡ m .loads) × (now (args .1 .1 .1 .0) ≡ m .solars) × (now (args .1 .1 .1 .1 .0) ≡ m .sheddables) × (now (args .1 .1 .1 .1 .1 .0) ≡ m .lent)
+  pub exit : clauses.AtExit (kinds.endedOf 2 seconds-kinds.ps seconds-kinds.r) κs
+  pub passed : (args .0 ≡ st) × (args .1 .0 ≡ r) × (now (args .1 .1 .0) ≡ m .inputs) × (now (args .1 .1 .1 .0) ≡ m .lent)
   pub returned : seconds-reads.Post κs args (m .worked) exit
-  pub seen : now (exit .1 .1 .1 .1 .1 .0) ≡ m .left
+  pub seen : now (exit .1 .1 .1 .0) ≡ m .left
 
 -- "whatever load, solar and sheddable load each hands in": none of the functions asks anything of its caller
 pub record AskNothing : Type 0 where
   pub read-asks : (κs : Lfts 1) (args : kinds.Dens κs read-kinds.ps) → read-reads.Pre κs args
   pub start-asks : (κs : Lfts 0) (args : kinds.Dens κs start-kinds.ps) → start-reads.Pre κs args
   pub second-asks : (κs : Lfts 1) (args : kinds.Dens κs second-kinds.ps) → second-reads.Pre κs args
-  pub seconds-asks : (κs : Lfts 4) (args : kinds.Dens κs seconds-kinds.ps) → seconds-reads.Pre κs args
+  pub seconds-asks : (κs : Lfts 2) (args : kinds.Dens κs seconds-kinds.ps) → seconds-reads.Pre κs args
