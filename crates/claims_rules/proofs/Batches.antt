@@ -27,7 +27,7 @@ use Rattle.rules.proofs.Start.{start-possible}
 use Rattle.laws.specs.Admitted.{Admitted}
 use Rattle.laws.proofs.Kept.{judged-is, admitted-of, record-kept}
 use Rattle.claims_rules.specs.Shown.{Worked}
-use Rattle.claims_rules.specs.Batches.{one, many, ManyCall, Batch, runAfter, ToldMany, Told, toldBatch, askedBatch, cameBy, ruledTold, ruledRun, ruledBatchesFrom, ruledBatches, rowsEach, rowsIn, rowsInBatches, KeptMany, KeptBatch, ChainedBatches, none, more, ClaimBatches}
+use Rattle.claims_rules.specs.Batches.{one, many, ManyCall, Batch, runAfter, ToldMany, Told, toldBatch, askedBatch, cameBy, ruledTold, ruledRun, ruledBatchesFrom, ruledBatches, rowsEach, rowsIn, rowsInBatches, EndedAt, KeptMany, KeptBatch, ChainedBatches, none, more, ClaimBatches}
 use Rattle.claims_rules.proofs.Seconds.{workedAt}
 use Rattle.claims_rules.proofs.Lists as lists
 use Rattle.claims_rules.proofs.Lists.{Steps, workedOf}
@@ -57,21 +57,21 @@ numbers-length (r ∷ rows) = omega (arith, length-append (columns r) (numbersOf
 fit : (n places : ℕ) → n ≤ places / 13 → 13 * n ≤ places
 fit n places h = omega arith
 
-none-fits : (n places : ℕ) → n ≡ places / 13 → places < 13 * (n + 1)
-none-fits n places h = omega arith
+-- why no more are worked, where there is room for so many rows
+abbrev EndedIn : Ended → ℕ → ℕ → ℕ → Type 0
+EndedIn AllWorked n asked room = n ≡ asked
+EndedIn NoRoom n asked room = (n < asked) × (n ≡ room)
+EndedIn BeforeRefused n asked room = (n < asked) × (n < room)
 
--- the three ends differ
-refused-not-all : {A : Type 0} → BeforeRefused ≡ AllWorked → A
-refused-not-all e = absurd (let z : _≡_ {A = ℕ} 0 1 = cc in omega arith)
+ended-on : (e : Ended) (n asked room : ℕ) → EndedIn e n asked room → EndedIn e (suc n) (suc asked) (suc room)
+ended-on AllWorked n asked room h = omega arith
+ended-on NoRoom n asked room h = (omega (arith, h .0), omega (arith, h .1))
+ended-on BeforeRefused n asked room h = (omega (arith, h .0), omega (arith, h .1))
 
-refused-not-full : {A : Type 0} → BeforeRefused ≡ NoRoom → A
-refused-not-full e = absurd (let z : _≡_ {A = ℕ} 0 1 = cc in omega arith)
-
-full-not-all : {A : Type 0} → NoRoom ≡ AllWorked → A
-full-not-all e = absurd (let z : _≡_ {A = ℕ} 0 1 = cc in omega arith)
-
-all-not-full : {A : Type 0} → AllWorked ≡ NoRoom → A
-all-not-full e = absurd (let z : _≡_ {A = ℕ} 0 1 = cc in omega arith)
+ended-at : (e : Ended) (n asked places : ℕ) → EndedIn e n asked (places / 13) → EndedAt e n asked places
+ended-at AllWorked n asked places h = h
+ended-at NoRoom n asked places h = (h .0, omega (arith, h .1))
+ended-at BeforeRefused n asked places h = (h .0, omega (arith, h .1))
 
 -- ---- what a batch owes, in its contract's words
 
@@ -92,9 +92,7 @@ module _ (st : Station) (given : someFileGives st ≡ true) (tables : Tables st)
     shows : (rest : List ℕ) → rowsEach xs (length (c .rows)) (numbersOf (c .rows) ++ rest) ≡ workedOf st r accepts
     done-is : c .run .done ≡ r .done + length (c .rows)
     fits : length (c .rows) ≤ room
-    as-asked : length (c .rows) ≤ length xs
-    all-worked : c .ended ≡ AllWorked → length (c .rows) ≡ length xs
-    no-room : c .ended ≡ NoRoom → length (c .rows) ≡ room
+    ended-in : EndedIn (c .ended) (length (c .rows)) (length xs) room
     none-kept : length (c .rows) ≡ 0 → (c .run ≡ r) × (c .rows ≡ [])
     stays-possible : possible st (c .run) ≡ true
 
@@ -128,9 +126,7 @@ module _ (st : Station) (given : someFileGives st ≡ true) (tables : Tables st)
           shows = λ rest. ap (λ (l : List Worked). workedAt st r x ∷ l) (w .shows rest);
           done-is = omega (arith, w .done-is, one-done);
           fits = omega (arith, w .fits);
-          as-asked = omega (arith, w .as-asked);
-          all-worked = λ q. ap suc (w .all-worked q);
-          no-room = λ q. ap suc (w .no-room q);
+          ended-in = ended-on (c .ended) (length (c .rows)) (length xs) room (w .ended-in);
           none-kept = λ z. absurd (omega arith);
           stays-possible = w .stays-possible;
         }
@@ -143,9 +139,7 @@ module _ (st : Station) (given : someFileGives st ≡ true) (tables : Tables st)
           shows = λ rest. refl;
           done-is = omega arith;
           fits = omega arith;
-          as-asked = omega arith;
-          all-worked = λ q. refused-not-all q;
-          no-room = λ q. refused-not-full q;
+          ended-in = (omega arith, omega arith);
           none-kept = λ z. (refl, refl);
           stays-possible = was-possible;
         }
@@ -159,9 +153,7 @@ module _ (st : Station) (given : someFileGives st ≡ true) (tables : Tables st)
     shows = λ rest. refl;
     done-is = omega arith;
     fits = omega arith;
-    as-asked = omega arith;
-    all-worked = λ q. refl;
-    no-room = λ q. all-not-full q;
+    ended-in = refl;
     none-kept = λ z. (refl, refl);
     stays-possible = h;
   }
@@ -172,9 +164,7 @@ module _ (st : Station) (given : someFileGives st ≡ true) (tables : Tables st)
     shows = λ rest. refl;
     done-is = omega arith;
     fits = omega arith;
-    as-asked = omega arith;
-    all-worked = λ q. full-not-all q;
-    no-room = λ q. refl;
+    ended-in = (omega arith, refl);
     none-kept = λ z. (refl, refl);
     stays-possible = h;
   }
@@ -254,9 +244,7 @@ module _ (st : Station) (given : someFileGives st ≡ true) (tables : Tables st)
           ∙ ap (λ (k : ℕ). take (13 * n) (m .left) ++ drop (13 * k) (m .lent)) (sym counts-is);
       rows-fit = omega (arith, counts-is, fit-here);
       length-stays = left-length;
-      as-asked = omega (arith, counts-is, w .as-asked);
-      all-worked = λ e. counts-is ∙ w .all-worked (sym ends-is ∙ e);
-      no-room = λ e. none-fits n (length (m .lent)) (counts-is ∙ w .no-room (sym ends-is ∙ e));
+      as-ended = rw (ends-is, counts-is) (ended-at (c .ended) (length (c .rows)) (length xs) (length (m .lent)) (w .ended-in));
     }
 
     many-off : Off r (many m)

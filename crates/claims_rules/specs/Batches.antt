@@ -6,7 +6,7 @@ use mathlib.Core.Path.{_≡_}
 use mathlib.Core.List.{List, [], _∷_, _++_, map}
 use lib.ListN.{length, take, drop}
 use Rattle.rules.specs.declared.answers.Ended.{Ended}
-use Rattle.rules.specs.declared.answers.Ended.the-variants.{AllWorked, NoRoom}
+use Rattle.rules.specs.declared.answers.Ended.the-variants.{AllWorked, NoRoom, BeforeRefused}
 use Rattle.rules.specs.declared.station.Station.{Station}
 use Rattle.rules.specs.declared.run.Inputs.{Inputs}
 use Rattle.rules.specs.declared.run.Run.{Run}
@@ -117,6 +117,13 @@ rowsInBatches (b ∷ bs) = rowsIn b ++ rowsInBatches bs
 
 -- ---- the claim
 
+-- why no more are worked, by their number, how many are asked and how many numbers are lent: there is none; the next one's row has no
+-- place; or it has, and the rules refuse the second
+abbrev pub EndedAt : Ended → ℕ → ℕ → ℕ → Type 0
+EndedAt AllWorked seconds asked places = seconds ≡ asked
+EndedAt NoRoom seconds asked places = (seconds < asked) × (places < 13 * (seconds + 1))
+EndedAt BeforeRefused seconds asked places = (seconds < asked) × (13 * (seconds + 1) ≤ places)
+
 -- where none is worked, record and rows are as they were; else the seconds done rise by one for each, and the numbers past the rows stay
 pub record KeptMany (r : Run) (m : ManyCall) : Type 0 where
   pub none-keeps : m .worked .seconds ≡ 0 → (m .worked .run ≡ r) × (m .left ≡ m .lent)
@@ -124,10 +131,7 @@ pub record KeptMany (r : Run) (m : ManyCall) : Type 0 where
   pub rest-stays : m .left ≡ take (13 * m .worked .seconds) (m .left) ++ drop (13 * m .worked .seconds) (m .lent)
   pub rows-fit : 13 * m .worked .seconds ≤ length (m .lent)
   pub length-stays : length (m .left) ≡ length (m .lent)
-  -- none is worked that was not asked; all are where the call says so; and it says that there is no room only where there is none
-  pub as-asked : m .worked .seconds ≤ length (inputsEach (m .inputs))
-  pub all-worked : m .worked .ended ≡ AllWorked → m .worked .seconds ≡ length (inputsEach (m .inputs))
-  pub no-room : m .worked .ended ≡ NoRoom → length (m .lent) < 13 * (m .worked .seconds + 1)
+  pub as-ended : EndedAt (m .worked .ended) (m .worked .seconds) (length (inputsEach (m .inputs))) (length (m .lent))
 
 -- a call of one second as in Claim: "A refused call hands the run's record back unchanged and writes nothing to a lent buffer"
 abbrev pub KeptBatch : Run → Batch → Type 0
