@@ -9,5 +9,5 @@ use Rattle.dispatch.proofs.seconds.seconds.Kinds as seconds-kinds
 pub second-asks : (κs : Lfts 1) (args : kinds.Dens κs second-kinds.ps) → second-reads.Pre κs args
 second-asks κs args = tt
 
-pub seconds-asks : (κs : Lfts 4) (args : kinds.Dens κs seconds-kinds.ps) → seconds-reads.Pre κs args
+pub seconds-asks : (κs : Lfts 2) (args : kinds.Dens κs seconds-kinds.ps) → seconds-reads.Pre κs args
 seconds-asks κs args = tt

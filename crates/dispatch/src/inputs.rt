@@ -1,18 +1,22 @@
-// What a second is handed, of the three slices.
+// What a second is handed, of numbers that have three for each.
 ghost use mathlib.Core.Path.{_≡_};
-ghost use Prim.Native.Nat.{_<_};
-ghost use lib.ListN.{length};
-ghost use Rattle.dispatch.specs.Seconds.{inputsOf, inputsAt};
+ghost use Rattle.dispatch.specs.Working.{firstInputs};
 use rules::run::Inputs;
 
-// The inputs of the second at a place that all three slices have.
-pub(crate) fn inputs_at(loads: &[u32], solars: &[u32], sheddables: &[u32], i: usize) -> Inputs
-    requires { ⌜ i < length (inputsOf (now loads) (now solars) (now sheddables)) ⌝ }
-    ensures { λ r. ⌜ r ≡ inputsAt (now (loads .entry)) (now (solars .entry)) (now (sheddables .entry)) i ⌝ }
+// The first second's inputs, or zeros where fewer than three numbers are left.
+pub fn first_inputs(inputs: &[u32]) -> Inputs
+    ensures { λ r. ⌜ r ≡ firstInputs (now (inputs .entry)) ⌝ }
 {
+    if inputs.len() < 3 {
+        return Inputs {
+            load: 0,
+            solar: 0,
+            sheddable: 0,
+        };
+    }
     Inputs {
-        load: loads[i],
-        solar: solars[i],
-        sheddable: sheddables[i],
+        load: inputs[0],
+        solar: inputs[1],
+        sheddable: inputs[2],
     }
 }
