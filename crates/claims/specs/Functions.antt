@@ -11,63 +11,50 @@ use Rattle.rules.specs.declared.station.Station.{Station}
 use Rattle.rules.specs.declared.run.Run.{Run}
 use Rattle.rules.specs.Calls.{Call}
 use Rattle.station.specs.declared.reader.Reading.{Reading}
-use Rattle.station.proofs.reader.read_station.Reads as read-reads
-use Rattle.station.proofs.reader.read_station.Kinds as read-kinds
+use Rattle.station.proofs.reader.read_station as read
 use Rattle.records.specs.declared.start.Started.{Started}
-use Rattle.records.proofs.start.start.Reads as start-reads
-use Rattle.records.proofs.start.start.Kinds as start-kinds
-use Rattle.dispatch.specs.declared.seconds.Worked.{Worked}
-use Rattle.dispatch.proofs.second.second.Reads as second-reads
-use Rattle.dispatch.proofs.second.second.Kinds as second-kinds
-use Rattle.dispatch.proofs.seconds.seconds.Reads as seconds-reads
-use Rattle.dispatch.proofs.seconds.seconds.Kinds as seconds-kinds
+use Rattle.records.proofs.start.start as start
+use Rattle.dispatch.proofs.second.second as second
+use Rattle.dispatch.proofs.seconds.seconds as seconds
+use Rattle.claims_rules.specs.Batches.{ManyCall}
 
 -- `station::reader::read_station` was handed a file, and gave g
 pub record ReadBy (file : List ℕ) (g : Reading) : Type 0 where
   pub κs : Lfts 1
-  pub args : kinds.Dens κs read-kinds.ps
-  pub exit : clauses.AtExit (kinds.endedOf 1 read-kinds.ps read-kinds.r) κs
+  pub args : kinds.Dens κs read.Kinds.ps
+  pub exit : clauses.AtExit (kinds.endedOf 1 read.Kinds.ps read.Kinds.r) κs
   pub passed : now (args .0) ≡ file
-  pub returned : read-reads.Post κs args g exit
+  pub returned : read.Reads.Post κs args g exit
 
 -- `records::start::start` was handed st, and gave g
 pub record StartedBy (st : Station) (g : Started) : Type 0 where
   pub κs : Lfts 0
-  pub args : kinds.Dens κs start-kinds.ps
-  pub exit : clauses.AtExit (kinds.endedOf 0 start-kinds.ps start-kinds.r) κs
+  pub args : kinds.Dens κs start.Kinds.ps
+  pub exit : clauses.AtExit (kinds.endedOf 0 start.Kinds.ps start.Kinds.r) κs
   pub passed : args .0 ≡ st
-  pub returned : start-reads.Post κs args g exit
+  pub returned : start.Reads.Post κs args g exit
 
 -- `dispatch::second::second` was handed st, r and the call's inputs and buffer, and gave what the call has
 pub record CalledBy (st : Station) (r : Run) (c : Call) : Type 0 where
   pub κs : Lfts 1
-  pub args : kinds.Dens κs second-kinds.ps
-  pub exit : clauses.AtExit (kinds.endedOf 1 second-kinds.ps second-kinds.r) κs
+  pub args : kinds.Dens κs second.Kinds.ps
+  pub exit : clauses.AtExit (kinds.endedOf 1 second.Kinds.ps second.Kinds.r) κs
   pub passed : (args .0 ≡ st) × (args .1 .0 ≡ r) × (args .1 .1 .0 ≡ c .inputs) × (now (args .1 .1 .1 .0) ≡ c .lent)
-  pub returned : second-reads.Post κs args (c .handed) exit
+  pub returned : second.Reads.Post κs args (c .handed) exit
   pub seen : now (exit .1 .1 .1 .0) ≡ c .left
 
--- what a call of many seconds is handed beside station and record, what it gives, and its buffer as it is left
-pub record ManyCall : Type 0 where
-  pub loads : List ℕ
-  pub solars : List ℕ
-  pub sheddables : List ℕ
-  pub lent : List ℕ
-  pub worked : Worked
-  pub left : List ℕ
-
--- `dispatch::seconds::seconds` was handed st, r and the call's inputs and buffer, and gave what the call has
+-- the call of many seconds was handed st, r and the call's inputs and rows, and gave what the call has
 pub record ManyBy (st : Station) (r : Run) (m : ManyCall) : Type 0 where
-  pub κs : Lfts 4
-  pub args : kinds.Dens κs seconds-kinds.ps
-  pub exit : clauses.AtExit (kinds.endedOf 4 seconds-kinds.ps seconds-kinds.r) κs
-  pub passed : (args .0 ≡ st) × (args .1 .0 ≡ r) × (now (args .1 .1 .0) ≡ m .loads) × (now (args .1 .1 .1 .0) ≡ m .solars) × (now (args .1 .1 .1 .1 .0) ≡ m .sheddables) × (now (args .1 .1 .1 .1 .1 .0) ≡ m .lent)
-  pub returned : seconds-reads.Post κs args (m .worked) exit
-  pub seen : now (exit .1 .1 .1 .1 .1 .0) ≡ m .left
+  pub κs : Lfts 2
+  pub args : kinds.Dens κs seconds.Kinds.ps
+  pub exit : clauses.AtExit (kinds.endedOf 2 seconds.Kinds.ps seconds.Kinds.r) κs
+  pub passed : (args .0 ≡ st) × (args .1 .0 ≡ r) × (now (args .1 .1 .0) ≡ m .inputs) × (now (args .1 .1 .1 .0) ≡ m .lent)
+  pub returned : seconds.Reads.Post κs args (m .worked) exit
+  pub seen : now (exit .1 .1 .1 .0) ≡ m .left
 
 -- "whatever load, solar and sheddable load each hands in": none of the functions asks anything of its caller
 pub record AskNothing : Type 0 where
-  pub read-asks : (κs : Lfts 1) (args : kinds.Dens κs read-kinds.ps) → read-reads.Pre κs args
-  pub start-asks : (κs : Lfts 0) (args : kinds.Dens κs start-kinds.ps) → start-reads.Pre κs args
-  pub second-asks : (κs : Lfts 1) (args : kinds.Dens κs second-kinds.ps) → second-reads.Pre κs args
-  pub seconds-asks : (κs : Lfts 4) (args : kinds.Dens κs seconds-kinds.ps) → seconds-reads.Pre κs args
+  pub read-asks : (κs : Lfts 1) (args : kinds.Dens κs read.Kinds.ps) → read.Reads.Pre κs args
+  pub start-asks : (κs : Lfts 0) (args : kinds.Dens κs start.Kinds.ps) → start.Reads.Pre κs args
+  pub second-asks : (κs : Lfts 1) (args : kinds.Dens κs second.Kinds.ps) → second.Reads.Pre κs args
+  pub seconds-asks : (κs : Lfts 2) (args : kinds.Dens κs seconds.Kinds.ps) → seconds.Reads.Pre κs args

@@ -34,7 +34,7 @@ abbrev pub Owes : Station → Run → Call → Type 0
 Owes st r c = Second st r (c .inputs) (c .lent) (c .handed) (c .left)
 
 -- a second that is admitted has room for its row: "row buffer under 256 bytes" is refused
-pub room-passed : (done : ℕ) (x : Inputs) (room : ℕ) → admitted done x room ≡ accepted tt → 256 ≤ room
+room-passed : (done : ℕ) (x : Inputs) (room : ℕ) → admitted done x room ≡ accepted tt → 256 ≤ room
 unfolding admitted
 room-passed done x room h =
     let a = passed (ltb done mostSeconds) 23 0 _ tt h in
@@ -115,7 +115,7 @@ module _ (st : Station) (given : someFileGives st ≡ true) (tables : Tables st)
           room = room-passed (r .done) (c .inputs) (length (c .lent)) (b .0);
         })
 
-    kept-here : Kept r c
+    pub kept-here : Kept r c
     kept-here =
         let k = kept-by answer r c worth hands leaves in
         record { by-answer = subst (λ (q : Answer ℕ). KeptBy q r c) (sym answers) (k .0); length-stays = k .1 }

@@ -39,19 +39,19 @@ use Rattle.rules.proofs.EdgeRecords.{_is_, refuses, accepts, given, sai
 
 -- ---- the station: shed delay 2 s, k 500, minimum seconds 3; set 1 has service interval 50 s, warm-up 2 s and cool-down 3 s
 
-abbrev control : List ℕ
+abbrev pub control : List ℕ
 control = 10000 ∷ 50 ∷ 40 ∷ 90 ∷ 2 ∷ 500 ∷ 3 ∷ 0 ∷ 2 ∷ []
 
-abbrev battery : List ℕ
+abbrev pub battery : List ℕ
 battery = 20000 ∷ 90 ∷ 100 ∷ 9000000 ∷ 1000000 ∷ []
 
-abbrev sets : List (List ℕ)
+abbrev pub sets : List (List ℕ)
 sets =
     (100000 ∷ 2 ∷ 3 ∷ 50 ∷ 7 ∷ 2 ∷ 0 ∷ 2000 ∷ 1000 ∷ 27000 ∷ [])
     ∷ (60000 ∷ 1 ∷ 1 ∷ 0 ∷ 0 ∷ 2 ∷ 0 ∷ 1500 ∷ 1000 ∷ 16500 ∷ [])
     ∷ []
 
-abbrev station : Station
+abbrev pub station : Station
 station = stationWith control battery sets (2 ∷ 1 ∷ 3 ∷ [])
 
 abbrev inputs : ℕ → ℕ → ℕ → Inputs
@@ -62,7 +62,7 @@ totals = 11 ∷ 12 ∷ 13 ∷ 14 ∷ 15 ∷ 16 ∷ 17 ∷ 18 ∷ 19 ∷ []
 
 -- ---- what a second leaves: seconds done, since-second, call and store; the two sets' states; the decided amounts; the totals
 
-abbrev firstNumbers : Run → List ℕ
+abbrev pub firstNumbers : Run → List ℕ
 firstNumbers r = r .done ∷ r .since ∷ r .called ∷ r .store ∷ []
 
 abbrev totalNumbers : Totals → List ℕ
@@ -70,7 +70,7 @@ totalNumbers t = t .offered ∷ t .load ∷ t .shed ∷ t .solar ∷ t .charge �
 
 -- ---- a second short of power: set 2 On, 10,000 W in the store, 5,000 W decided two seconds ago and 6,000 W one second ago
 
-abbrev short : Run
+abbrev pub short : Run
 short =
     runWith (10 ∷ 9 ∷ 1 ∷ 1000100 ∷ []) (At (float 90000))
     (stateWith Off (5 ∷ 4 ∷ 3 ∷ 2 ∷ 1000 ∷ 2000 ∷ []) ∷ stateWith On (7 ∷ 6 ∷ 2 ∷ 1 ∷ 3000 ∷ 4000 ∷ []) ∷ []) (5000 ∷ 6000 ∷ []) totals
@@ -157,7 +157,7 @@ abbrev answered : Answer Step → List ℕ
 answered a = shown (lengthAnswered a)
 
 -- one number of the record changed
-abbrev numbered : ℕ → ℕ → Run
+abbrev pub numbered : ℕ → ℕ → Run
 numbered i n = runWith (set (10 ∷ 9 ∷ 1 ∷ 1000100 ∷ []) i n) Absent (stateWith Off [] ∷ stateWith On [] ∷ []) [] []
 
 abbrev callCases : List Case
