@@ -1,0 +1,11 @@
+use Rattle.course.proofs.seconds.seconds.Statement.{statement}
+use Rattle.course.proofs.seconds.seconds.Tie as tie
+use Rattle.course.proofs.seconds.seconds.Reads as reads
+use Rattle.course.proofs.seconds.seconds.Lts as lts
+
+-- src/seconds.rt:9:1
+returns : tie.Need-returns
+returns c = ?
+
+pub seconds-spec : {M : Type 1} → statement M
+seconds-spec = tie.close (tie.spec returns)
