@@ -6,11 +6,11 @@ ghost use Rattle.rules.specs.Setpoint.{covers};
 ghost use Rattle.rules.specs.Configuration.{maskCalled, sinceAfter};
 ghost use Rattle.rules.specs.Share.{capacity};
 ghost use Rattle.commitment.specs.Choice.{capacities, usableOf, usableCoveringOf, calledCovers, none, greater, firstCoveringOf, greatestUsableOf, chosenOf};
-use crate::setpoint::over;
 use gensets::share::capacity;
 use rules::limits::MOST_CONFIGURATIONS;
 use rules::station::GenSet;
 use rules::station::Station;
+use words::arithmetic::over;
 
 // A configuration's mask of sets by its number; 0 and a number past the table call no set.
 pub fn mask_called(configs: [u8; 64], called: usize) -> u32
@@ -54,7 +54,7 @@ fn usable_covering(barred: u32, held: f64, mask: u32, cap: u32) -> bool
 }
 
 // The capacity of a mask; that of a station's sets always fits.
-fn capacity_fitting(sets: [GenSet; 8], mask: u32) -> u32
+pub fn capacity_fitting(sets: [GenSet; 8], mask: u32) -> u32
     ensures { λ r. ⌜ r ≡ min (capacity sets mask) 4_294_967_295 ⌝ }
 {
     // most places of a table have no configuration

@@ -1,23 +1,11 @@
 // Step 9: the reserve, what is wanted of the sets, and the setpoint's filter.
 ghost use mathlib.Core.Path.{_≡_};
-ghost use Prim.Native.Nat.{_-_, max};
 ghost use Rattle.rules.specs.Setpoint.{coverageOf, reserve, wantedFor, filterOf, filtered, heldAfter};
 use rules::run::Filter;
 use rules::run::Held;
 use rules::station::Control;
-
-fn larger(a: u64, b: u64) -> u64
-    ensures { λ r. ⌜ r ≡ max a b ⌝ }
-{
-    if a < b { b } else { a }
-}
-
-// a - b, and 0 where b is larger.
-pub(crate) fn over(a: u64, b: u64) -> u64
-    ensures { λ r. ⌜ r ≡ a - b ⌝ }
-{
-    if a < b { 0 } else { a - b }
-}
+use words::arithmetic::larger;
+use words::arithmetic::over;
 
 fn coverage_of(control: Control, solar: u32) -> u64
     ensures { λ r. ⌜ r ≡ coverageOf control solar ⌝ }
@@ -65,12 +53,14 @@ fn filtered(f: Filter, wanted: f64) -> Filter
     }
 }
 
-// The held setpoint after a second in which so much is wanted, in W.
-pub fn held_after(k: u32, setpoint: Held, wanted: u32) -> f64
+// The held setpoint after a second in which so much is wanted, in W: what is wanted of numbers that no file gives may be beyond the
+// whole numbers of a double.
+pub fn held_after(k: u32, setpoint: Held, wanted: u64) -> f64
     ensures { λ r. ⌜ r ≡ heldAfter k setpoint wanted ⌝ }
 {
+    let asked = std::num::nearest_u64_to_f64(wanted);
     match setpoint {
-        Held::Absent => wanted as f64,
-        Held::At(held) => filtered(filter_of(k, held), wanted as f64).held,
+        Held::Absent => asked,
+        Held::At(held) => filtered(filter_of(k, held), asked).held,
     }
 }

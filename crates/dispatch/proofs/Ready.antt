@@ -1,5 +1,4 @@
--- What the steps of an admitted second may take for granted: every sum fits, every set that is On has passed its checks, and
--- what is left of the load is not negative. Assumes nothing.
+-- What is known of an admitted second: every count is small, and every set that is On has passed its checks. Assumes nothing.
 use Prim.Native.Nat.{ℕ, zero, suc, _-_, _*_, _≤_, _<_, min}
 use mathlib.Core.Path.{_≡_, refl, sym, ap, _∙_}
 use mathlib.Core.Bool.{Bool, true, false}
@@ -38,8 +37,7 @@ use Rattle.laws.proofs.KeptRest.{chosen-most, watts-small}
 use Rattle.laws.proofs.KeptSets.{Within, from-rules, tick-counts, off-only}
 use Rattle.gensets.proofs.FileCapacity.{rating-most, capacity-most}
 use Rattle.commitment.specs.Choice.{capacities, Rated}
-use Rattle.dispatch.specs.CurveTable.{InRule, Fillable}
-use Rattle.dispatch.specs.Sized.{Small, CountableAll, Wantable, SwitchableAll, SmallTotals}
+use Rattle.dispatch.specs.Sized.{Small, SmallTotals}
 
 -- ---- the counts of a set, by the seconds done
 
@@ -99,26 +97,6 @@ module _ (st : Station) (given : someFileGives st ≡ true) (r : Run) (p : possi
       small-of (setAt (st .sets) i) (stateAt (r .sets) i) (r .done) (rating-most st given i) (leb-true _ _ (asked-of 0))
       (within-of (ltb i (st .setcount)) (setAt (st .sets) i) (stateAt (r .sets) i) (r .done) (at-place i l))
 
-  -- a set that is On is one of the station's
-  on-in-rule : Tables st → (i : ℕ) → i < 8 → isOn (stateAt (r .sets) i .mode) ≡ true → InRule (setAt (st .sets) i)
-  on-in-rule tables i l on = go (ltb i (st .setcount)) refl (at-place i l)
-    where
-      go : (b : Bool) → ltb i (st .setcount) ≡ b → statePossible b (setAt (st .sets) i) (stateAt (r .sets) i) (r .done) ≡ true → InRule (setAt (st .sets) i)
-      go true e h =
-          let right = set-at st tables (right-of st given) i (ltb-true i (st .setcount) e) in
-          record { numbers = right .0; pairs = right .1 }
-      go false e h =
-          let off : stateAt (r .sets) i .mode ≡ Off = unused-off (setAt (st .sets) i) (stateAt (r .sets) i) (r .done) h in
-          never (sym (ap isOn off) ∙ on)
-
-  pub fillable : Tables st → (on : ℕ) → on ≡ onMask (r .sets) → (sums lines : List ℕ) → length sums ≡ 8 → length lines ≡ 160 → Fillable (st .sets) on sums lines
-  unfolding onMask
-  fillable tables on e sums lines size room = record {
-    sums-length = size;
-    lines-length = room;
-    in-rule = λ i l h. on-in-rule tables i l (sym (mask-has (λ j. isOn (stateAt (r .sets) j .mode)) 8 i l) ∙ ap (λ (m : ℕ). has m i) (sym e) ∙ h);
-  }
-
 -- and stays so
 never-on : (g : GenSet) (s : SetState) (done : ℕ) → statePossible false g s done ≡ true → isOn (tick g s .mode) ≡ true → ⊥
 unfolding tick tickFrom
@@ -127,25 +105,6 @@ never-on g s done h on =
     let still : tickFrom g s (s .mode) ≡ s = ap (tickFrom g s) off in
     let e : isOn (tickFrom g s (s .mode) .mode) ≡ false = ap (λ (t : SetState). isOn (t .mode)) still ∙ ap isOn off in
     never (sym e ∙ on)
-
-counted-switches : (g : GenSet) (s : SetState) (power : ℕ) → (counted g s power .starts ≡ s .starts) × (counted g s power .stops ≡ s .stops)
-unfolding counted
-counted-switches g s power = choice (λ (t : SetState). (t .starts ≡ s .starts) × (t .stops ≡ s .stops)) (isOn (s .mode)) _ s (λ on. (refl, refl)) (λ off. (refl, refl))
-
--- ---- what is wanted
-
-coverage-small : (c : Control) (solar : ℕ) → c .coverage ≤ 100 → coverageOf c solar ≤ solar
-unfolding coverageOf
-coverage-small c solar h = let k : solar * c .coverage ≤ solar * 100 = mul-le-mul-left solar h in omega arith
-
-reserve-small : (c : Control) (solar live most : ℕ) → c .spinning ≤ most → coverageOf c solar ≤ most → reserve c solar live ≤ most
-unfolding reserve
-reserve-small c solar live most h k = choice (λ (n : ℕ). n ≤ most) (eqb (c .maintain) 1) _ _ (λ e. omega arith) (λ e. omega arith)
-
-pub wanted-small : (c : Control) (w : Watts) (sheddable : ℕ) → Wantable c w → wantedFor c (restOf w) (w .solar) (w .shed) sheddable ≤ 100_000_000
-unfolding wantedFor
-wanted-small c w sheddable h =
-    omega (arith, h .load-most, reserve-small c (w .solar) (sheddable - w .shed) 50_000_000 (h .spinning-most) (le-trans (coverage-small c (w .solar) (h .coverage-most)) (h .solar-most)))
 
 -- ---- the capacities of a station's configurations
 
@@ -178,7 +137,7 @@ module _ (st : Station) (tables : Tables st) (r : Run) (x : Inputs) (h : Admitte
   unfolding statesNow ticked stateAt
   ticked-is i l = tab-at (λ j. tick (setAt (st .sets) j) (stateAt (r .sets) j)) 8 i (fresh Off) l
 
-  ticked-small : (i : ℕ) → i < 8 → Small (stateAt (statesNow st r) i)
+  pub ticked-small : (i : ℕ) → i < 8 → Small (stateAt (statesNow st r) i)
   unfolding tick
   ticked-small i l =
       let g : GenSet = setAt (st .sets) i in
@@ -193,57 +152,16 @@ module _ (st : Station) (tables : Tables st) (r : Run) (x : Inputs) (h : Admitte
       go true e p = ltb-true i (st .setcount) e
       go false e p = absurd (never-on (setAt (st .sets) i) (stateAt (r .sets) i) (r .done) p (ap (λ (t : SetState). isOn (t .mode)) (sym (ticked-is i l)) ∙ on))
 
-  on-right : (i : ℕ) → i < 8 → isOn (stateAt (statesNow st r) i .mode) ≡ true → (setRight (setAt (st .sets) i) ≡ true) × (pairsRight (setAt (st .sets) i) ≡ true)
+  pub on-right : (i : ℕ) → i < 8 → isOn (stateAt (statesNow st r) i .mode) ≡ true → (setRight (setAt (st .sets) i) ≡ true) × (pairsRight (setAt (st .sets) i) ≡ true)
   on-right i l on = set-at st tables (right-of st (h .station-given)) i (existing i l on)
 
   pub cap-most : capNow st r ≤ 80_000_000
   unfolding capNow
   cap-most = capacity-most st (h .station-given) (onNow st r)
 
-  diesel-cap : wattsNow st r x .diesel ≤ capNow st r
+  pub diesel-cap : wattsNow st r x .diesel ≤ capNow st r
   unfolding wattsNow wattsFor wattsWith dieselFor
   diesel-cap = omega arith
-
-  pub countable : CountableAll (st .sets) (statesNow st r) (onNow st r) (wattsNow st r x .diesel)
-  unfolding capNow
-  countable = record {
-    capacity-most = cap-most;
-    diesel-most = diesel-cap;
-    numbers = λ i l on. on-right i l on .0;
-    pairs = λ i l on. on-right i l on .1;
-    small = ticked-small;
-  }
-
-  ran-is : (w : Watts) (i : ℕ) → i < 8 → stateAt (ranNow st r w) i ≡ counted (setAt (st .sets) i) (stateAt (statesNow st r) i) (share (st .sets) (onNow st r) (w .diesel) i)
-  unfolding ranNow countedAll stateAt
-  ran-is w i l = tab-at (λ j. counted (setAt (st .sets) j) (stateAt (statesNow st r) j) (share (st .sets) (onNow st r) (w .diesel) j)) 8 i (fresh Off) l
-
-  pub switchable : (w : Watts) → SwitchableAll (ranNow st r w)
-  switchable w = record {
-    each = λ i l.
-        let same = counted-switches (setAt (st .sets) i) (stateAt (statesNow st r) i) (share (st .sets) (onNow st r) (w .diesel) i) in
-        rw (ran-is w i l) (record { starts-most = rw (same .0) (ticked-small i l .starts-most); stops-most = rw (same .1) (ticked-small i l .stops-most) });
-  }
-
-  -- ---- the setpoint and the configuration
-
-  pub wantable : Wantable (st .control) (wattsNow st r x)
-  unfolding wattsNow wattsFor wattsWith
-  wantable =
-      let control = right-of st (h .station-given) .control in
-      let small = watts-small (st .battery) (r .store) (capNow st r) (floorNow st r) (getD (r .decided) 0 0) x (h .load-most) (h .solar-most) (h .sheddable-most) in
-      record {
-        spinning-most = spinning-most (st .setcount) (st .control) control;
-        coverage-most = coverage-most (st .setcount) (st .control) control;
-        load-most = h .load-most;
-        solar-most = small .solar;
-        rest-left = omega (arith, load-met (st .battery) (r .store) (capNow st r) (floorNow st r) (getD (r .decided) 0 0) x (h .sheddable-load));
-      }
-
-  pub call-most : callNow st r x (wattsNow st r x) ≤ 64
-  unfolding callNow
-  call-most =
-      omega (arith, chosen-most st (ranNow st r (wattsNow st r x)) (heldNow st r x (wattsNow st r x)) (r .called) (r .since) (r .done) (leb-true _ _ (rule 2)), right-of st (h .station-given) .configcount)
 
   -- ---- the station totals
 

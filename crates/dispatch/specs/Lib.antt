@@ -1,11 +1,5 @@
--- What the steps inside a second may take for granted, and many seconds in one call.
+-- The steps of a second for whatever is handed in, and many seconds in one call.
 pub mod Sized
+pub mod InType
 pub mod Parts
-pub mod Lasting
-pub mod Quiet
-pub mod CurveTable
-pub mod Supply
-pub mod Commit
-pub mod Seconds
-pub mod Going
-pub mod QuietSecond
+pub mod Steps

@@ -2,8 +2,8 @@
 ghost use mathlib.Core.Path.{_≡_};
 ghost use Prim.Native.Nat.{_<_, _≤_};
 ghost use Rattle.rules.specs.Numbers.{has};
-ghost use Rattle.rules.specs.Commands.{started, stopped, command, everyOn, commandedAll};
-ghost use Rattle.dispatch.specs.Sized.{Switchable, SwitchableAll};
+ghost use Rattle.rules.specs.Commands.{started, stopped, command, everyOn};
+ghost use Rattle.dispatch.specs.InType.{switchedIn, commandedAllIn};
 use modes::mode::is_on;
 use rules::run::Mode;
 use rules::run::SetState;
@@ -12,14 +12,13 @@ use words::masks::next_set;
 
 // "go Warming, one start"
 fn start_set(genset: GenSet, state: SetState) -> SetState
-    requires { ⌜ Switchable state ⌝ }
-    ensures { λ r. ⌜ r ≡ started genset state ⌝ }
+    ensures { λ r. ⌜ r ≡ switchedIn (started genset state) ⌝ }
 {
     SetState {
         mode: Mode::Warming(genset.warmup),
         run: state.run,
         clock: state.clock,
-        starts: state.starts + 1,
+        starts: std::num::wrapping_add_u32(state.starts, 1),
         stops: state.stops,
         energy: state.energy,
         fuel: state.fuel,
@@ -28,15 +27,14 @@ fn start_set(genset: GenSet, state: SetState) -> SetState
 
 // "go Off, one stop", "go Cooling, one stop"
 fn stop_set(state: SetState, mode: Mode) -> SetState
-    requires { ⌜ Switchable state ⌝ }
-    ensures { λ r. ⌜ r ≡ stopped state mode ⌝ }
+    ensures { λ r. ⌜ r ≡ switchedIn (stopped state mode) ⌝ }
 {
     SetState {
         mode,
         run: state.run,
         clock: state.clock,
         starts: state.starts,
-        stops: state.stops + 1,
+        stops: std::num::wrapping_add_u32(state.stops, 1),
         energy: state.energy,
         fuel: state.fuel,
     }
@@ -44,8 +42,7 @@ fn stop_set(state: SetState, mode: Mode) -> SetState
 
 // The command to one set; `release` where every called set is On, so that the others may go.
 fn command(genset: GenSet, state: SetState, called: bool, release: bool) -> SetState
-    requires { ⌜ Switchable state ⌝ }
-    ensures { λ r. ⌜ r ≡ command genset state called release ⌝ }
+    ensures { λ r. ⌜ r ≡ switchedIn (command genset state called release) ⌝ }
 {
     let mode = state.mode;
     match mode {
@@ -106,8 +103,7 @@ pub(crate) fn every_on(states: [SetState; 8], mask: u32) -> bool
 
 // The commands to every set, where the mask's sets are called.
 pub(crate) fn command_all(sets: [GenSet; 8], states: [SetState; 8], mask: u32) -> [SetState; 8]
-    requires { ⌜ SwitchableAll states ⌝ }
-    ensures { λ r. ⌜ r ≡ commandedAll sets states mask ⌝ }
+    ensures { λ r. ⌜ r ≡ commandedAllIn sets states mask ⌝ }
 {
     let release = every_on(states, mask);
     let mut out = states;

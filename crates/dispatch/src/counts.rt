@@ -1,63 +1,61 @@
 // Step 8: what a second adds to the counts of each set.
 ghost use mathlib.Core.Path.{_≡_};
-ghost use mathlib.Core.Bool.{true};
-ghost use Rattle.rules.specs.Share.{capacity};
-ghost use Rattle.rules.specs.Modes.{isOn, onMask};
-ghost use Rattle.rules.specs.Commands.{counted, countedAll};
-ghost use Rattle.dispatch.specs.Sized.{Countable, CountableAll};
+ghost use Rattle.gensets.specs.Burned.{perHour};
+ghost use Rattle.gensets.specs.Leaves.{rateTold};
+ghost use Rattle.dispatch.specs.InType.{countedIn, countedAllIn};
 use gensets::fuel::Rate;
 use gensets::fuel::fuel_rate;
+use gensets::share::shares;
 use rules::run::SetState;
 use rules::station::GenSet;
 use words::masks::next_set;
 
-// The counts of a set On after a second at a power.
-fn count(genset: GenSet, state: SetState, power: u32) -> SetState
-    requires { ⌜ Countable genset state power × (isOn (state .mode) ≡ true) ⌝ }
-    ensures { λ r. ⌜ r ≡ counted genset state power ⌝ }
+// What a set burns in a second; one that no file gives has no rate.
+fn burned(genset: GenSet, power: u32) -> u64
+    ensures { λ r. ⌜ r ≡ perHour (rateTold genset power) ⌝ }
 {
-    let mode = state.mode;
     let rate = fuel_rate(genset, power);
-    // never taken: a set that is On has a curve that some file gives
-    let Rate::PerHour(burned) = rate else {
-        return state;
-    };
-    SetState {
-        mode,
-        run: state.run + 1,
-        clock: state.clock + 1,
-        starts: state.starts,
-        stops: state.stops,
-        energy: state.energy + power as u64,
-        fuel: state.fuel + burned,
+    match rate {
+        Rate::PerHour(burns) => burns,
+        Rate::OverTwiceRating => 0,
+        Rate::OutOfRange => 0,
     }
 }
 
-// Every set's counts, each at its share of the diesel power, where the mask has the sets On and `cap` is their capacity.
+// The counts of a set On after a second at a power.
+fn count(genset: GenSet, state: SetState, power: u32) -> SetState
+    ensures { λ r. ⌜ r ≡ countedIn genset state power ⌝ }
+{
+    let mode = state.mode;
+    SetState {
+        mode,
+        run: std::num::wrapping_add_u32(state.run, 1),
+        clock: std::num::wrapping_add_u32(state.clock, 1),
+        starts: state.starts,
+        stops: state.stops,
+        energy: std::num::wrapping_add_u64(state.energy, power as u64),
+        fuel: std::num::wrapping_add_u64(state.fuel, burned(genset, power)),
+    }
+}
+
+// Every set's counts, where the mask has the sets On: each of them at its share of the diesel power.
 pub(crate) fn count_all(
     sets: [GenSet; 8],
     states: [SetState; 8],
     mask: u32,
     diesel: u32,
-    cap: u64,
 ) -> [SetState; 8]
-    requires { ⌜ CountableAll sets states mask diesel × (cap ≡ capacity sets mask) × (mask ≡ onMask states) ⌝ }
-    ensures { λ r. ⌜ r ≡ countedAll sets states mask diesel ⌝ }
+    ensures { λ r. ⌜ r ≡ countedAllIn sets states mask diesel ⌝ }
 {
+    let answer = shares(sets, mask, diesel);
+    let watts = answer.watts;
     let mut out = states;
-    let mut sum: u64 = 0;
-    let mut given: u64 = 0;
     let mut place = next_set(mask, 0);
     while place < 8 {
         let at = place as usize;
         let genset = sets[at];
         let state = out[at];
-        sum += genset.rating as u64;
-        // each less what the sets before it took: rounded alone, the shares would miss the diesel power
-        let upto = (diesel as u64) * sum / cap;
-        let power = (upto - given) as u32;
-        given = upto;
-        out[at] = count(genset, state, power);
+        out[at] = count(genset, state, watts[at]);
         place = next_set(mask, place + 1);
     }
     out

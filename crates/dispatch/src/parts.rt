@@ -1,8 +1,6 @@
 // A run's record in parts, so that many seconds change its arrays where they stand.
 ghost use mathlib.Core.Path.{_≡_};
-ghost use Prim.Native.Nat.{_≤_};
 ghost use Rattle.dispatch.specs.Parts.{runOf, momentAfter, rowOf};
-ghost use Rattle.dispatch.specs.Sized.{SmallTotals};
 use crate::totals::plus;
 use commitment::configuration::since_after;
 use rules::run::Held;
@@ -13,16 +11,16 @@ use rules::run::Totals;
 use rules::run::Watts;
 
 // The record without its arrays.
-pub(crate) struct Moment {
-    pub(crate) done: u32,
-    pub(crate) since: u32,
-    pub(crate) called: usize,
-    pub(crate) store: u64,
-    pub(crate) setpoint: Held,
-    pub(crate) totals: Totals,
+pub struct Moment {
+    pub done: u32,
+    pub since: u32,
+    pub called: usize,
+    pub store: u64,
+    pub setpoint: Held,
+    pub totals: Totals,
 }
 
-pub(crate) fn moment_of(run: Run) -> Moment
+pub fn moment_of(run: Run) -> Moment
     ensures { λ r. ⌜ runOf r (run .sets) (run .decided) ≡ run ⌝ }
 {
     let setpoint = run.setpoint;
@@ -37,7 +35,7 @@ pub(crate) fn moment_of(run: Run) -> Moment
     }
 }
 
-pub(crate) fn whole(moment: Moment, states: [SetState; 8], decided: [u32; 60]) -> Run
+pub fn whole(moment: Moment, states: [SetState; 8], decided: [u32; 60]) -> Run
     ensures { λ r. ⌜ r ≡ runOf moment states decided ⌝ }
 {
     let setpoint = moment.setpoint;
@@ -55,21 +53,14 @@ pub(crate) fn whole(moment: Moment, states: [SetState; 8], decided: [u32; 60]) -
 }
 
 // The record after a second but for its arrays, by what it called, held, stored and met.
-pub(crate) fn moment_after(
-    moment: Moment,
-    call: usize,
-    held: f64,
-    store: u64,
-    watts: Watts,
-) -> Moment
-    requires { ⌜ SmallTotals (moment .totals) × (moment .done ≤ 316_224_000) ⌝ }
+pub fn moment_after(moment: Moment, call: usize, held: f64, store: u64, watts: Watts) -> Moment
     ensures { λ r. ⌜ r ≡ momentAfter moment call held store watts ⌝ }
 {
     let totals = moment.totals;
     let done = moment.done;
     let sums = plus(totals, watts);
     Moment {
-        done: done + 1,
+        done: std::num::wrapping_add_u32(done, 1),
         since: since_after(call, moment.called, moment.since, done),
         called: call,
         store,
@@ -79,8 +70,7 @@ pub(crate) fn moment_after(
 }
 
 // Its row: the mask of the sets On, "and how many sets that is".
-pub(crate) fn row_of(second: u32, watts: Watts, on: u32, call: usize, store: u64) -> Row
-    requires { ⌜ call ≤ 64 ⌝ }
+pub fn row_of(second: u32, watts: Watts, on: u32, call: usize, store: u64) -> Row
     ensures { λ r. ⌜ r ≡ rowOf second watts on call store ⌝ }
 {
     Row {
@@ -88,7 +78,7 @@ pub(crate) fn row_of(second: u32, watts: Watts, on: u32, call: usize, store: u64
         watts,
         on,
         sets: u32::count_ones(on),
-        call: call as u32,
+        call,
         store,
     }
 }

@@ -1,28 +1,36 @@
-// The eleven steps of a second that nothing refuses: the record after it, and its row.
+// The eleven steps of a second: the record after it, and its row.
 ghost use mathlib.Core.Path.{_≡_};
-ghost use Rattle.laws.specs.Admitted.{Admitted};
-ghost use lib.ListN.{length};
-ghost use Rattle.commitment.specs.Choice.{Rated};
-ghost use Rattle.dispatch.specs.Parts.{runOf, SteppedTo};
-use crate::commit::commit;
-use crate::commit::wanted_now;
+ghost use Rattle.dispatch.specs.Parts.{runOf};
+ghost use Rattle.dispatch.specs.Steps.{SteppedBy};
+use crate::commands::command_all;
+use crate::counts::count_all;
 use crate::parts::Moment;
 use crate::parts::moment_after;
 use crate::parts::row_of;
-use crate::supply::supply;
+use commitment::commit::commit;
+use commitment::configuration::capacity_fitting;
+use commitment::configuration::mask_called;
+use flows::amounts::decide;
+use flows::amounts::oldest;
+use flows::floor::floor_load;
+use flows::meet::meet_load;
+use modes::masks::barred_mask;
+use modes::masks::on_mask;
+use modes::tick::tick_all;
 use rules::run::Inputs;
 use rules::run::Row;
 use rules::run::SetState;
 use rules::station::Station;
 
 // What the steps come to: the record after them but for the decided amounts, and the row.
-pub(crate) struct Stepped {
-    pub(crate) moment: Moment,
-    pub(crate) states: [SetState; 8],
-    pub(crate) row: Row,
+pub struct Stepped {
+    pub moment: Moment,
+    pub states: [SetState; 8],
+    pub row: Row,
 }
 
-pub(crate) fn step(
+// Whatever station, table of the configurations' capacities and record are handed in. The decided amounts move where they stand.
+pub fn step(
     st: Station,
     caps: &[u32; 64],
     before: [SetState; 8],
@@ -30,25 +38,26 @@ pub(crate) fn step(
     inputs: Inputs,
     decided: &mut [u32],
 ) -> Stepped
-    requires { ⌜ Admitted st (runOf moment before (now decided)) inputs × Rated (st .sets) (st .configs) (now caps) × (length (now decided) ≡ 60) ⌝ }
-    ensures { λ r. ⌜ SteppedTo st (runOf moment before (now (decided .entry))) inputs r (now (decided .exit)) ⌝ }
+    ensures { λ r. ⌜ SteppedBy st (now (caps .entry)) (runOf moment before (now (decided .entry))) inputs r (now (decided .exit)) ⌝ }
 {
-    let control = st.control;
+    let sets = st.sets;
+    let states = tick_all(sets, before);
+    let on = on_mask(states);
+    let cap = capacity_fitting(sets, on);
+    let met = meet_load(st, moment.store, cap, floor_load(st, on), oldest(decided), inputs);
+    let watts = met.watts;
+    decide(st.control.delay, met.decided, decided);
+    let ran = count_all(sets, states, on, watts.diesel);
     let setpoint = moment.setpoint;
     let called = moment.called;
-    let since = moment.since;
     let done = moment.done;
-    let supplied = supply(st, before, moment, inputs, decided);
-    let watts = supplied.watts;
-    let ran = supplied.states;
-    let store = supplied.store;
-    let wanted = wanted_now(control, watts, inputs.sheddable);
-    let committed = commit(st, caps, ran, setpoint, wanted, called, since, done);
-    let states = committed.states;
-    let call = committed.call;
+    let barred = barred_mask(sets, ran);
+    let chosen = commit(st, caps, barred, setpoint, called, moment.since, done, watts, inputs.sheddable);
+    let call = chosen.call;
+    let configs = st.configs;
     Stepped {
-        moment: moment_after(moment, call, committed.held, store, watts),
-        states,
-        row: row_of(done, watts, supplied.on, call, store),
+        moment: moment_after(moment, call, chosen.held, met.store, watts),
+        states: command_all(sets, ran, mask_called(configs, call)),
+        row: row_of(done, watts, on, call, met.store),
     }
 }

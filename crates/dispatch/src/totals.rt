@@ -1,22 +1,19 @@
 // The station totals: each second's watts are added to them.
 ghost use mathlib.Core.Path.{_≡_};
-ghost use Prim.Native.Nat.{_+_, _≤_};
-ghost use Rattle.rules.specs.Second.{plus};
-ghost use Rattle.dispatch.specs.Sized.{SmallTotals};
+ghost use Prim.Native.Nat.{_+_};
+ghost use Rattle.dispatch.specs.InType.{in64, plusIn};
 use rules::run::Totals;
 use rules::run::Watts;
 
 // A total with a second's watts.
 fn more(total: u64, watts: u32) -> u64
-    requires { ⌜ total ≤ 15_811_200_000_000_000 ⌝ }
-    ensures { λ r. ⌜ r ≡ total + watts ⌝ }
+    ensures { λ r. ⌜ r ≡ in64 (total + watts) ⌝ }
 {
-    total + watts as u64
+    std::num::wrapping_add_u64(total, watts as u64)
 }
 
 pub(crate) fn plus(totals: Totals, watts: Watts) -> Totals
-    requires { ⌜ SmallTotals totals ⌝ }
-    ensures { λ r. ⌜ r ≡ plus totals watts ⌝ }
+    ensures { λ r. ⌜ r ≡ plusIn totals watts ⌝ }
 {
     Totals {
         offered: more(totals.offered, watts.offered),

@@ -1,2 +1,3 @@
--- What the rules have no word for: the decided amounts of a lent slice.
+-- What the rules have no word for: the decided amounts of a lent slice, and steps 3 to 7 together.
 pub mod Amounts
+pub mod Met

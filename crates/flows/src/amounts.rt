@@ -1,22 +1,32 @@
 // Step 7: the shed amount decided, and the amounts held until their delay is over (step 3).
 ghost use mathlib.Core.Path.{_≡_};
 ghost use Prim.Native.Nat.{_≤_, min, max};
-ghost use lib.ListN.{length};
+ghost use lib.ListN.{length, getD};
 ghost use Rattle.rules.specs.Flows.{shedDecided, decidedAfter};
 ghost use Rattle.flows.specs.Amounts.{decidedIn};
 use crate::arithmetic::at_most;
-use crate::arithmetic::over;
-use crate::arithmetic::over_u64;
 use crate::arithmetic::percent;
 use rules::limits::MOST_SHED_DELAY;
 use rules::station::Control;
+use words::arithmetic::over;
+use words::arithmetic::over_u32;
 
 // What solar and the shed % of the capacity leave of the load: of the whole of it, also while some is shed.
-pub fn shed_decided(control: Control, cap: u32, load: u32, solar: u32, sheddable: u32) -> u32
+pub(crate) fn shed_decided(control: Control, cap: u32, load: u32, solar: u32, sheddable: u32) -> u32
     ensures { λ r. ⌜ r ≡ shedDecided control cap load solar sheddable ⌝ }
 {
-    let left = over(load, solar);
-    at_most(sheddable, over_u64(left as u64, percent(cap, control.shed)))
+    let left = over_u32(load, solar);
+    at_most(sheddable, over(left as u64, percent(cap, control.shed)))
+}
+
+// The amount decided "delay" seconds ago: the oldest held, and 0 where none is.
+pub fn oldest(decided: &[u32]) -> u32
+    ensures { λ r. ⌜ r ≡ getD (now (decided .entry)) 0 0 ⌝ }
+{
+    if decided.len() == 0 {
+        return 0;
+    }
+    decided[0]
 }
 
 // How many amounts move: a delay of 0, which no file gives, counts as 1, and there are 60 amounts.

@@ -3,4 +3,5 @@ pub mod amounts;
 mod arithmetic;
 mod battery;
 pub mod floor;
-pub mod flow;
+mod flow;
+pub mod meet;

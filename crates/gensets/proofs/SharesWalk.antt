@@ -6,7 +6,7 @@ use mathlib.Core.List.{List}
 use mathlib.Core.Logic.{_⊎_, inl, inr}
 use native.Mathlib.Omega.{arith}
 use native.Mathlib.Decide.{decLt}
-use native.Mathlib.Nat.{le-trans, lt-of-lt-of-le, eq-or-lt-of-le, mul-zero, mul-le-mul, mul-le-mul-left, zero-div, div-mul-le-self, le-div-iff-mul-le, ne-of-gt, ne-of-lt}
+use native.Mathlib.Nat.{le-trans, lt-of-lt-of-le, eq-or-lt-of-le, mul-zero, mul-le-mul-left, zero-div, div-mul-le-self, le-div-iff-mul-le, ne-of-gt, ne-of-lt}
 use lib.ListN.{length, getD, set, replicate, length-set, getD-replicate}
 use lib.Seq.{getD-set-same, getD-set-other, ext-getD}
 use Rattle.rules.specs.declared.station.GenSet.{GenSet}
@@ -65,9 +65,6 @@ module _ {sets : List GenSet} {mask diesel cap : ℕ} (asked : Shareable sets ma
       within-capacity =
           let e : suc i + (7 - i) ≡ 8 = omega arith in
           rw (one-more, asked .is-capacity) (rw e at (weighed-rises (ratingOf sets) mask (suc i) (7 - i)))
-
-      pub product-small : diesel * (sum + ratingOf sets i) ≤ 80_000_000 * 80_000_000
-      product-small = mul-le-mul (le-trans (asked .allowed) (asked .small)) (le-trans within-capacity (asked .small))
 
       pub given-rises : given ≤ diesel * (sum + ratingOf sets i) / cap
       given-rises =

@@ -1,5 +1,6 @@
 // Steps 2 and 6: the capacity of a mask, and what each of its sets takes of the diesel power.
 ghost use mathlib.Core.Path.{_≡_};
+ghost use Prim.Native.Nat.{_*_, _/_, _≤_};
 ghost use Rattle.rules.specs.Numbers.{tab};
 ghost use Rattle.rules.specs.Share.{capacity, share};
 ghost use Rattle.gensets.specs.Leaves.{Shareable, sharesTold};
@@ -25,9 +26,10 @@ pub struct ShareAnswer {
     pub watts: [u32; 8],
 }
 
-// The ratings of the mask's sets, summed.
+// The ratings of the mask's sets, summed: eight of 32 bits at most.
 pub fn capacity(sets: [GenSet; 8], mask: u32) -> u64
     ensures { λ r. ⌜ r ≡ capacity sets mask ⌝ }
+    ensures { λ r. ⌜ r ≤ 34_359_738_360 ⌝ }
 {
     let mut sum: u64 = 0;
     let mut i = next_set(mask, 0);
@@ -39,24 +41,34 @@ pub fn capacity(sets: [GenSet; 8], mask: u32) -> u64
     sum
 }
 
+// What the sets up to one take together of a diesel power: the part that the sum of their ratings is of the capacity, rounded down.
+pub fn upto(diesel: u32, sum: u32, cap: u32) -> u64
+    ensures { λ r. ⌜ r ≡ diesel * sum / cap ⌝ }
+{
+    // a quotient by 0 is 0 in the definitions
+    if cap == 0 {
+        return 0;
+    }
+    (diesel as u64) * (sum as u64) / (cap as u64)
+}
+
 // What each set of the mask takes of some diesel power that the capacity allows; a place that the mask has not takes nothing.
-fn taken(sets: [GenSet; 8], mask: u32, diesel: u32, cap: u64) -> [u32; 8]
+fn taken(sets: [GenSet; 8], mask: u32, diesel: u32, cap: u32) -> [u32; 8]
     requires { ⌜ Shareable sets mask diesel cap ⌝ }
     ensures { λ r. ⌜ r ≡ tab 8 (share sets mask diesel) ⌝ }
 {
     let mut out = [0u32; 8];
-    let mut sum: u64 = 0;
+    let mut sum: u32 = 0;
     let mut given: u64 = 0;
     let mut place = next_set(mask, 0);
     while place < 8 {
         let at = place as usize;
         let g = sets[at];
-        let rating = g.rating as u64;
-        sum += rating;
+        sum += g.rating;
         // each less what the sets before it took: rounded alone, the shares would miss the diesel power
-        let upto = (diesel as u64) * sum / cap;
-        out[at] = (upto - given) as u32;
-        given = upto;
+        let together = upto(diesel, sum, cap);
+        out[at] = (together - given) as u32;
+        given = together;
         place = next_set(mask, place + 1);
     }
     out
@@ -86,7 +98,7 @@ pub fn shares(sets: [GenSet; 8], mask: u32, diesel: u32) -> ShareAnswer
             watts: [0; 8],
         };
     }
-    let watts = taken(sets, mask, diesel, cap);
+    let watts = taken(sets, mask, diesel, cap as u32);
     ShareAnswer {
         sharing: Sharing::Shared,
         watts,

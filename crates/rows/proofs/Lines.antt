@@ -1,5 +1,5 @@
 -- A row's line, number after number, as the code writes it. Assumes nothing.
-use Prim.Native.Nat.{ℕ, suc, _+_, _<_}
+use Prim.Native.Nat.{ℕ, zero, suc, _+_, _≤_, _<_}
 use mathlib.Core.Path.{_≡_, refl, sym, ap, _∙_}
 use mathlib.Core.List.{List, [], _∷_, _++_, append-assoc, append-nil}
 use native.Mathlib.Omega.{arith}
@@ -21,7 +21,7 @@ commaed-append [] ys = refl
 commaed-append (x ∷ xs) ys = rw (commaed-append xs ys, append-assoc)
 
 -- one number more
-pub commaed-step : (xs : List ℕ) (i : ℕ) → i < length xs → commaed (take (i + 1) xs) ≡ commaed (take i xs) ++ ended (getD xs i 0) comma
+commaed-step : (xs : List ℕ) (i : ℕ) → i < length xs → commaed (take (i + 1) xs) ≡ commaed (take i xs) ++ ended (getD xs i 0) comma
 unfolding commaed
 commaed-step xs i h =
     rw (add-one i, take-suc xs i 0 h) (commaed-append (take i xs) (getD xs i 0 ∷ []) ∙ ap (λ (t : List ℕ). commaed (take i xs) ++ t) (append-nil (ended (getD xs i 0) comma)))
@@ -32,7 +32,7 @@ commaed-on before xs i h =
     append-assoc before (commaed (take i xs)) (ended (getD xs i 0) comma) ∙ ap (λ (t : List ℕ). before ++ t) (sym (commaed-step xs i h))
 
 -- the last number, with LF after it
-pub line-ends : (xs : List ℕ) (x : ℕ) → commaLine (xs ++ (x ∷ [])) ≡ commaed xs ++ ended x LF
+line-ends : (xs : List ℕ) (x : ℕ) → commaLine (xs ++ (x ∷ [])) ≡ commaed xs ++ ended x LF
 unfolding commaLine commaed ended
 line-ends [] x = refl
 line-ends (y ∷ []) x = simp append-assoc
@@ -46,3 +46,32 @@ line-last xs i e =
 pub line-last-on : (before xs : List ℕ) (i : ℕ) → i + 1 ≡ length xs → (before ++ commaed (take i xs)) ++ ended (getD xs i 0) LF ≡ before ++ commaLine xs
 line-last-on before xs i e =
     append-assoc before (commaed (take i xs)) (ended (getD xs i 0) LF) ∙ ap (λ (t : List ℕ). before ++ t) (sym (line-last xs i e))
+
+-- ---- the line's length
+
+-- LF takes the last comma's place
+length-line : (x : ℕ) (xs : List ℕ) → length (commaLine (x ∷ xs)) ≡ length (commaed (x ∷ xs))
+unfolding commaLine commaed
+length-line x [] = omega (arith, length-append (decimal x) (LF ∷ []), length-append (ended x comma) [], length-ended x comma)
+length-line x (y ∷ xs) =
+    omega (arith, length-append (decimal x) (comma ∷ commaLine (y ∷ xs)), length-append (ended x comma) (commaed (y ∷ xs)), length-ended x comma, length-line y xs)
+
+pub line-length : (xs : List ℕ) → 1 ≤ length xs → length (commaLine xs) ≡ length (commaed xs)
+line-length [] h = absurd (omega arith)
+line-length (x ∷ xs) h = length-line x xs
+
+within : (xs : List ℕ) (i : ℕ) → i < length xs → length (commaed (take i xs)) + length (decimal (getD xs i 0)) < length (commaed xs)
+unfolding commaed
+within [] i h = absurd (omega arith)
+within (x ∷ xs) zero h = omega (arith, length-append (ended x comma) (commaed xs), length-ended x comma)
+within (x ∷ xs) (suc i) h =
+    omega (arith, length-append (ended x comma) (commaed (take i xs)), length-append (ended x comma) (commaed xs), within xs i (omega arith))
+
+-- each number and the byte after it lie within the line
+pub line-room : (xs : List ℕ) (i : ℕ) → i < length xs → length (commaed (take i xs)) + length (decimal (getD xs i 0)) < length (commaLine xs)
+line-room xs i h = omega (arith, within xs i h, line-length xs (omega arith))
+
+-- the lengths, one number more
+pub length-step : (xs : List ℕ) (i : ℕ) → i < length xs → length (commaed (take (i + 1) xs)) ≡ length (commaed (take i xs)) + (length (decimal (getD xs i 0)) + 1)
+length-step xs i h =
+    omega (arith, ap length (commaed-step xs i h), length-append (commaed (take i xs)) (ended (getD xs i 0) comma), length-ended (getD xs i 0) comma)

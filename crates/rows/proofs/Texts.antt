@@ -35,6 +35,10 @@ goes-on l a t b b′ at at′ f e q =
     let y : drop at b ≡ drop (length a) l = rw (f .1) (drop-at a (drop (length a) l) at (sym (f .0))) in
     (omega (arith, f .0, length-append a t), q ∙ rw (x, y, length-append a t, append-assoc, ← drop-drop))
 
+-- and is no longer than the buffer
+pub front-fits : (l t b : List ℕ) (k : ℕ) → Front l t k b → k ≤ length b
+front-fits l t b k f = omega (arith, f .0, ap length (f .1) ∙ length-append t (drop (length t) l))
+
 -- a byte more at the end of the text at the front
 pub byte-more : (l d b : List ℕ) (k x : ℕ) → length d < length l → Front l d k b → Front l (d ++ (x ∷ [])) (k + 1) (set b k x)
 byte-more l d b k x h f =

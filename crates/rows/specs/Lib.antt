@@ -1,3 +1,4 @@
--- What is owed of a text in a lent buffer, and the line of a set.
+-- What is owed of a text in a lent buffer, the line of a set, and rows of numbers as lines.
 pub mod Written
 pub mod SetLine
+pub mod RowLines

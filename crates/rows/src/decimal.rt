@@ -9,7 +9,7 @@ ghost use Rattle.rows.specs.Written.{Front, lastDigits, placed};
 const FOUR_ZEROS: u32 = 808_464_432;
 
 // A number of one digit at the start of the row buffer's tail.
-pub(crate) fn put_digit(number: u32, tail: &mut [u8]) -> usize
+fn put_digit(number: u32, tail: &mut [u8]) -> usize
     requires { ⌜ (number < 10) × (length (decimal number) ≤ length (now tail)) ⌝ }
     ensures { λ r. ⌜ Front (now (tail .entry)) (decimal number) r (now (tail .exit)) ⌝ }
 {
@@ -72,7 +72,7 @@ fn put_short(number: u32, tail: &mut [u8]) -> usize
 }
 
 // Writes the number at the start of the row buffer's tail, and answers how many digits it has.
-pub(crate) fn put_decimal(number: u32, tail: &mut [u8]) -> usize
+fn put_decimal(number: u32, tail: &mut [u8]) -> usize
     requires { ⌜ length (decimal number) ≤ length (now tail) ⌝ }
     ensures { λ r. ⌜ Front (now (tail .entry)) (decimal number) r (now (tail .exit)) ⌝ }
 {

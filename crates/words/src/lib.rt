@@ -1,4 +1,5 @@
-// Bytes, masks and answers in code; nothing of the field.
+// Small sums, bytes, masks and answers in code; nothing of the field.
+pub mod arithmetic;
 pub mod little;
 pub mod masks;
 pub mod refusals;

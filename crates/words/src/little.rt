@@ -1,20 +1,15 @@
 // "Little-endian": the one reader of the numbers of a station file.
 ghost use mathlib.Core.Path.{_≡_};
-ghost use Prim.Native.Nat.{_≤_, _<_, _^_, min};
+ghost use Prim.Native.Nat.{_<_, _^_, min};
 ghost use lib.ListN.{length};
 ghost use Rattle.rules.specs.Bytes.{little};
+use crate::arithmetic::lesser;
 
 // A byte is cast in a function of its own, so that each caller has only the index to show.
 fn wide(byte: u8) -> u64
     ensures { λ r. ⌜ (r ≡ byte) × (r < 256) ⌝ }
 {
     byte as u64
-}
-
-fn lesser(a: usize, b: usize) -> usize
-    ensures { λ r. ⌜ (r ≤ a) × (r ≤ b) × (r ≡ min a b) ⌝ }
-{
-    if a < b { a } else { b }
 }
 
 // The number in the first 8 bytes of a part; a byte that is not there counts 0.

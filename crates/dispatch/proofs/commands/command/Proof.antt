@@ -1,18 +1,28 @@
 -- `dispatch::commands::command` meets its contract, mode by mode. Assumes nothing.
-use mathlib.Core.Path.{_≡_, refl, sym, ap, _∙_}
+use Prim.Native.Nat.{_<_}
+use mathlib.Core.Path.{_≡_, sym, ap, _∙_}
 use mathlib.Core.Bool.{Bool}
 use Rattle.rules.specs.declared.station.GenSet.{GenSet}
 use Rattle.rules.specs.declared.run.Mode.{Mode}
 use Rattle.rules.specs.declared.run.SetState.{SetState}
 use Rattle.rules.specs.Commands.{commandFrom, command}
+use Rattle.dispatch.specs.InType.{switchedIn}
+use Rattle.dispatch.proofs.Fits.{switched-small}
 use borrow.Author.Needs.{needs}
 use Rattle.dispatch.proofs.commands.command.Statement.{statement}
 use Rattle.dispatch.proofs.commands.command.Tie as tie
 
 -- by the mode that the set has
-by-mode : (g : GenSet) (s : SetState) (called release : Bool) (m : Mode) (r : SetState) → s .mode ≡ m → r ≡ commandFrom g s called release m → r ≡ command g s called release
+by-mode : (g : GenSet) (s : SetState) (called release : Bool) (m : Mode) (r : SetState) → s .mode ≡ m → r ≡ switchedIn (commandFrom g s called release m) → r ≡ switchedIn (command g s called release)
 unfolding command
-by-mode g s called release m r e h = h ∙ sym (ap (commandFrom g s called release) e)
+by-mode g s called release m r e h = h ∙ sym (ap (λ (k : Mode). switchedIn (commandFrom g s called release k)) e)
+
+-- a set that is left as it is
+own : (c : tie.Start) → c .args .state ≡ switchedIn (c .args .state)
+own c =
+    let starts : c .args .state .starts < 4_294_967_296 = search needs in
+    let stops : c .args .state .stops < 4_294_967_296 = search needs in
+    sym (switched-small (c .args .state) starts stops)
 
 enum-told : tie.Need-enum-told
 enum-told c = search needs
@@ -44,11 +54,11 @@ returns c = by-mode _ _ _ _ _ _ (c .before .before .enum-told .given .1) (rw (c 
 
 returns-2 : tie.Need-returns-2
 unfolding commandFrom
-returns-2 c = by-mode _ _ _ _ _ _ (c .before .enum-told .given .1) (rw (c .if1 .left))
+returns-2 c = by-mode _ _ _ _ _ _ (c .before .enum-told .given .1) (rw (c .if1 .left) (own (c .before .before .before)))
 
 returns-3 : tie.Need-returns-3
 unfolding commandFrom
-returns-3 c = by-mode _ _ _ _ _ _ (c .before .enum-told2 .given .1) (rw (c .if2 .taken))
+returns-3 c = by-mode _ _ _ _ _ _ (c .before .enum-told2 .given .1) (rw (c .if2 .taken) (own (c .before .before .before)))
 
 returns-4 : tie.Need-returns-4
 unfolding commandFrom
@@ -56,7 +66,7 @@ returns-4 c = by-mode _ _ _ _ _ _ (c .before .before .enum-told2 .given .1) (rw 
 
 returns-5 : tie.Need-returns-5
 unfolding commandFrom
-returns-5 c = by-mode _ _ _ _ _ _ (c .before .enum-told3 .given .1) (rw (c .if3 .taken))
+returns-5 c = by-mode _ _ _ _ _ _ (c .before .enum-told3 .given .1) (rw (c .if3 .taken) (own (c .before .before .before)))
 
 returns-6 : tie.Need-returns-6
 unfolding commandFrom
@@ -64,15 +74,15 @@ returns-6 c = by-mode _ _ _ _ _ _ (c .before .before .before .enum-told3 .given 
 
 returns-7 : tie.Need-returns-7
 unfolding commandFrom
-returns-7 c = by-mode _ _ _ _ _ _ (c .before .before .enum-told3 .given .1) (rw (c .before .if3 .left, c .if4 .left))
+returns-7 c = by-mode _ _ _ _ _ _ (c .before .before .enum-told3 .given .1) (rw (c .before .if3 .left, c .if4 .left) (own (c .before .before .before .before)))
 
 returns-8 : tie.Need-returns-8
 unfolding commandFrom
-returns-8 c = by-mode _ _ _ _ _ _ (c .enum-told4 .given .1) refl
+returns-8 c = by-mode _ _ _ _ _ _ (c .enum-told4 .given .1) (own (c .before .before))
 
 returns-9 : tie.Need-returns-9
 unfolding commandFrom
-returns-9 c = by-mode _ _ _ _ _ _ (c .enum-told5 .given .1) refl
+returns-9 c = by-mode _ _ _ _ _ _ (c .enum-told5 .given .1) (own (c .before .before))
 
 pub command-spec : {M : Type 1} → statement M
 command-spec =

@@ -10,19 +10,19 @@ use Rattle.rules.specs.declared.run.SetState.{SetState}
 use Rattle.rules.specs.Numbers.{has}
 use Rattle.rules.specs.StationRecord.{pastEnd, setAt}
 use Rattle.rules.specs.Modes.{fresh, stateAt}
-use Rattle.rules.specs.Commands.{command, everyOn, commandedAll}
-use Rattle.dispatch.specs.Sized.{SwitchableAll}
+use Rattle.rules.specs.Commands.{command, everyOn}
+use Rattle.dispatch.specs.InType.{switchedIn, commandedAllIn}
 use Rattle.modes.proofs.Filled.{Filling, filling-start, filling-at, filling-more, filling-whole}
 use Rattle.dispatch.proofs.commands.command_all.Statement.{statement}
 use Rattle.dispatch.proofs.commands.command_all.Tie as tie
 
 -- the set at a place after the commands
 abbrev commandedAt : List GenSet → List SetState → ℕ → ℕ → SetState
-commandedAt sets states mask i = command (setAt sets i) (stateAt states i) (has mask i) (everyOn states mask)
+commandedAt sets states mask i = switchedIn (command (setAt sets i) (stateAt states i) (has mask i) (everyOn states mask))
 
 abbrev Inv-loop : tie.InvT-loop
 Inv-loop mask sets release out₀ i₀ out i =
-    SwitchableAll out₀ × (release ≡ everyOn out₀ mask) × Filling (commandedAt sets out₀ mask) out₀ 8 i out
+    (release ≡ everyOn out₀ mask) × Filling (commandedAt sets out₀ mask) out₀ 8 i out
 
 abbrev μ-loop : tie.MeasureT-loop
 μ-loop mask sets release out₀ i₀ out i = 8 - i
@@ -31,7 +31,7 @@ every-on-requires : tie.Need-every-on-requires Inv-loop μ-loop
 every-on-requires c κs = search needs
 
 loop-holds : tie.Need-loop-holds Inv-loop μ-loop
-loop-holds c = (c .before .pre, c .every-on .ensures, filling-start _ _ 8 (search needs))
+loop-holds c = (c .every-on .ensures, filling-start _ _ 8 (search needs))
 
 mul-genset : tie.Need-mul-genset Inv-loop μ-loop
 mul-genset c = omega arith
@@ -49,10 +49,7 @@ has-set-requires : tie.Need-has-set-requires Inv-loop μ-loop
 has-set-requires c κs = search needs
 
 command-requires : tie.Need-command-requires Inv-loop μ-loop
-unfolding stateAt
-command-requires c κs =
-    let at-loop = c .before .before .before .before in
-    rw (filling-at _ _ 8 (at-loop .loop .i) _ (at-loop .loop .inv .2) _) (at-loop .loop .inv .0 .each (at-loop .loop .i) (search needs))
+command-requires c κs = search needs
 
 mul-out : tie.Need-mul-out Inv-loop μ-loop
 mul-out c = omega arith
@@ -70,12 +67,12 @@ loop-again : tie.Need-loop-again Inv-loop μ-loop
 unfolding setAt stateAt pastEnd
 loop-again c =
     let at-loop = c .before .before .before .before .before in
-    let own = filling-at _ _ 8 (at-loop .loop .i) _ (at-loop .loop .inv .2) (fresh Off) in
-    (at-loop .loop .inv .0, at-loop .loop .inv .1, filling-more _ _ 8 (at-loop .loop .i) _ (at-loop .loop .inv .2) (search needs) _ (c .command .ensures ∙ rw (own, c .before .has-set .ensures, at-loop .loop .inv .1)))
+    let own = filling-at _ _ 8 (at-loop .loop .i) _ (at-loop .loop .inv .1) (fresh Off) in
+    (at-loop .loop .inv .0, filling-more _ _ 8 (at-loop .loop .i) _ (at-loop .loop .inv .1) (search needs) _ (c .command .ensures ∙ rw (own, c .before .has-set .ensures, at-loop .loop .inv .0)))
 
 returns : tie.Need-returns Inv-loop μ-loop
-unfolding commandedAll
-returns c = filling-whole _ _ 8 (c .before .loop .i) _ (c .before .loop .inv .2) (omega arith)
+unfolding commandedAllIn
+returns c = filling-whole _ _ 8 (c .before .loop .i) _ (c .before .loop .inv .1) (omega arith)
 
 pub command-all-spec : {M : Type 1} → statement M
 command-all-spec =

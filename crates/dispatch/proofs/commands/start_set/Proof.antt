@@ -1,14 +1,19 @@
 -- `dispatch::commands::start_set` meets its contract. Assumes nothing.
-use mathlib.Core.Path.{refl}
+use Prim.Native.Nat.{_<_}
+use mathlib.Core.Path.{_≡_, sym}
 use borrow.Author.Needs.{needs}
+use Rattle.dispatch.specs.InType.{in32}
+use Rattle.dispatch.proofs.Fits.{small32}
 use Rattle.dispatch.proofs.commands.start_set.Statement.{statement}
 use Rattle.dispatch.proofs.commands.start_set.Tie as tie
 
-add-t4 : tie.Need-add-t4
-add-t4 c = search needs
+wrapping-add-u32-requires : tie.Need-wrapping-add-u32-requires
+wrapping-add-u32-requires c κs = search needs
 
 returns : tie.Need-returns
-returns c = refl
+returns c =
+    let room : c .before .args .state .stops < 4_294_967_296 = search needs in
+    rw (c .wrapping-add-u32 .ensures, small32 _ room)
 
 pub start-set-spec : {M : Type 1} → statement M
-start-set-spec = tie.close (tie.spec add-t4 returns)
+start-set-spec = tie.close (tie.spec wrapping-add-u32-requires returns)

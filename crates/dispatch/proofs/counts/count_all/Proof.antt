@@ -1,31 +1,71 @@
 -- `dispatch::counts::count_all` meets its contract. Assumes nothing.
 use borrow.Author.Needs.{needs}
-use Prim.Native.Nat.{_+_, _-_, _<_, zero-le}
+use Prim.Native.Nat.{ℕ, suc, _+_, _-_, _≤_, _<_, zero-le}
+use mathlib.Core.Path.{_≡_, sym, ap, _∙_}
+use mathlib.Core.Bool.{true, false}
+use mathlib.Core.List.{List}
 use native.Mathlib.Omega.{arith}
+use native.Mathlib.Numerals.{add-one}
+use lib.ListN.{getD, set}
+use lib.Seq.{set-getD}
+use Rattle.rules.specs.declared.run.Mode.the-variants.{Off}
+use Rattle.rules.specs.declared.run.SetState.{SetState}
+use Rattle.rules.specs.declared.station.GenSet.{GenSet}
+use Rattle.rules.specs.Numbers.{has}
 use Rattle.rules.specs.StationRecord.{pastEnd, setAt}
-use Rattle.rules.specs.Modes.{stateAt}
-use Rattle.rules.specs.Commands.{countedAll}
+use Rattle.rules.specs.Modes.{fresh, stateAt}
+use Rattle.words.specs.Masks.{nextSet}
 use Rattle.words.proofs.Walk.{Place, place, forward}
-use Rattle.modes.proofs.Filled.{filling-whole}
-use Rattle.dispatch.proofs.Counting.{Asked, Counting, asked-of, counting-start, counting-more, sum-small, product-small, some-capacity, given-rises, takes-rating, rating-small, countable-here, on-here}
+use Rattle.gensets.specs.declared.share.ShareAnswer.{ShareAnswer}
+use Rattle.gensets.specs.Leaves.{sharesTold}
+use Rattle.modes.proofs.Filled.{Filling, filling-start, filling-at, filling-more, filling-whole}
+use Rattle.dispatch.specs.InType.{countedIn, countedAt, countedAllIn}
+use Rattle.dispatch.proofs.PassedBy.{to-next}
 use Rattle.dispatch.proofs.counts.count_all.Statement.{statement}
 use Rattle.dispatch.proofs.counts.count_all.Tie as tie
 
+module _ (sets : List GenSet) (states : List SetState) (mask diesel : ℕ) where
+  abbrev Counting : ℕ → List SetState → Type 0
+  Counting i out = Filling (countedAt sets states mask diesel) states 8 i out
+
+  -- a set that the mask has not counts nothing
+  passed-by : (out : List SetState) (i : ℕ) → i < 8 → has mask i ≡ false → Counting i out → Counting (suc i) out
+  unfolding countedAt stateAt
+  passed-by out i l none now =
+      let own : getD out i (fresh Off) ≡ getD states i (fresh Off) = filling-at _ _ 8 i out now (fresh Off) in
+      rw (set-getD, add-one i) at (filling-more _ _ 8 i out now l (getD out i (fresh Off)) (rw (none, own)))
+
+  up-to-next : (out : List SetState) (i : ℕ) → i ≤ 8 → Counting i out → Counting (nextSet mask i) out
+  up-to-next out i l now = to-next mask (λ k. Counting k out) (passed-by out) i l now
+
+  counted-more : (out : List SetState) (i : ℕ) → Place mask i → i < 8 → Counting i out → (after : SetState)
+      → after ≡ countedIn (setAt sets i) (stateAt out i) (getD (sharesTold sets mask diesel .watts) i 0) → Counting (nextSet mask (i + 1)) (set out i after)
+  unfolding countedAt stateAt
+  counted-more out i at l now after e =
+      let own : getD out i (fresh Off) ≡ getD states i (fresh Off) = filling-at _ _ 8 i out now (fresh Off) in
+      up-to-next (set out i after) (i + 1) (omega arith) (filling-more _ _ 8 i out now l after (e ∙ rw (at .here l, own)))
+
 abbrev Inv-loop : tie.InvT-loop
-Inv-loop mask diesel cap sets out₀ sum₀ given₀ place₀ out sum given place =
-    Asked sets out₀ mask diesel cap × Place mask place × Counting sets out₀ mask diesel cap place sum given out
+Inv-loop mask diesel sets watts out₀ place₀ out place =
+    (watts ≡ sharesTold sets mask diesel .watts) × Place mask place × Counting sets out₀ mask diesel place out
 
 abbrev μ-loop : tie.MeasureT-loop
-μ-loop mask diesel cap sets out₀ sum₀ given₀ place₀ out sum given place = 8 - place
+μ-loop mask diesel sets watts out₀ place₀ out place = 8 - place
+
+shares-requires : tie.Need-shares-requires Inv-loop μ-loop
+shares-requires c κs = search needs
 
 next-set-requires : tie.Need-next-set-requires Inv-loop μ-loop
 next-set-requires c κs = search needs
 
 loop-holds : tie.Need-loop-holds Inv-loop μ-loop
 loop-holds c =
-    let start = c .before in
-    let asked = asked-of (start .pre .0) (start .pre .1) (start .pre .2) in
-    rw (c .next-set .ensures) (asked, place _ 0 zero-le, counting-start asked (search needs))
+    let a = c .before .before .before .args in
+    (
+      ap (λ (s : ShareAnswer). s .watts) (c .before .before .shares .ensures),
+      rw (c .next-set .ensures) (place (a .mask) 0 zero-le),
+      rw (c .next-set .ensures) (up-to-next (a .t1) (a .states) (a .mask) (a .diesel) (a .states) 0 zero-le (filling-start _ _ 8 (search needs))),
+    )
 
 cast-at : tie.Need-cast-at Inv-loop μ-loop
 cast-at c = search needs
@@ -42,50 +82,14 @@ mul-state c = omega arith
 array-copy-out-state : tie.Need-array-copy-out-state Inv-loop μ-loop
 array-copy-out-state c = omega arith
 
-cast-sum : tie.Need-cast-sum Inv-loop μ-loop
-cast-sum c = search needs
+mul-count : tie.Need-mul-count Inv-loop μ-loop
+mul-count c = omega arith
 
-add-sum : tie.Need-add-sum Inv-loop μ-loop
-unfolding setAt stateAt pastEnd
-add-sum c =
-    let at = c .before .before .before .before .loop in
-    let l : at .place < 8 = c .before .before .before .loop-test .taken in
-    record { fits = omega (arith, sum-small (at .inv .0) (at .inv .2) (at .inv .1) l) }
-
-mul-upto : tie.Need-mul-upto Inv-loop μ-loop
-unfolding setAt stateAt pastEnd
-mul-upto c =
-    let at = c .before .before .before .before .loop in
-    let l : at .place < 8 = c .before .before .before .loop-test .taken in
-    record { fits = omega (arith, product-small (at .inv .0) (at .inv .2) (at .inv .1) l) }
-
-div-upto : tie.Need-div-upto Inv-loop μ-loop
-unfolding setAt stateAt pastEnd
-div-upto c =
-    let at = c .before .before .before .before .loop in
-    let l : at .place < 8 = c .before .before .before .loop-test .taken in
-    omega (arith, some-capacity (at .inv .0) (at .inv .2) (at .inv .1) l)
-
-sub-power : tie.Need-sub-power Inv-loop μ-loop
-unfolding setAt stateAt pastEnd
-sub-power c =
-    let at = c .before .before .before .before .loop in
-    let l : at .place < 8 = c .before .before .before .loop-test .taken in
-    given-rises (at .inv .0) (at .inv .2) (at .inv .1) l
-
-cast-power : tie.Need-cast-power Inv-loop μ-loop
-unfolding setAt stateAt pastEnd
-cast-power c =
-    let at = c .before .before .before .before .loop in
-    let l : at .place < 8 = c .before .before .before .loop-test .taken in
-    record { fits = omega (arith, takes-rating (at .inv .0) (at .inv .2) (at .inv .1) l, rating-small (at .inv .0) (at .inv .2) (at .inv .1) l) }
+array-read-count : tie.Need-array-read-count Inv-loop μ-loop
+array-read-count c = omega arith
 
 count-requires : tie.Need-count-requires Inv-loop μ-loop
-unfolding setAt stateAt pastEnd
-count-requires c κs =
-    let at = c .before .before .before .before .loop in
-    let l : at .place < 8 = c .before .before .before .loop-test .taken in
-    (countable-here (at .inv .0) (at .inv .2) (at .inv .1) l, on-here (at .inv .0) (at .inv .2) (at .inv .1) l)
+count-requires c κs = search needs
 
 mul-out : tie.Need-mul-out Inv-loop μ-loop
 mul-out c = omega arith
@@ -105,13 +109,18 @@ loop-less c = omega (arith, forward _ _ _ (c .next-set2 .ensures))
 loop-again : tie.Need-loop-again Inv-loop μ-loop
 unfolding setAt stateAt pastEnd
 loop-again c =
-    let at = c .before .before .before .before .before .before .loop in
-    let l : at .place < 8 = c .before .before .before .before .before .loop-test .taken in
-    rw (c .next-set2 .ensures) (at .inv .0, place _ (at .place + 1) (omega arith), counting-more (at .inv .0) (at .inv .2) (at .inv .1) l _ (c .before .count .ensures))
+    let at = c .before .before .before .before .before .loop in
+    let a = c .before .before .before .before .before .before .before .before .before .args in
+    let l : at .place < 8 = c .before .before .before .before .loop-test .taken in
+    (
+      at .inv .0,
+      rw (c .next-set2 .ensures) (place (a .mask) (at .place + 1) (omega arith)),
+      rw (c .next-set2 .ensures) (counted-more (a .t1) (a .states) (a .mask) (a .diesel) (at .out) (at .place) (at .inv .1) l (at .inv .2) _ (c .before .count .ensures ∙ rw (at .inv .0))),
+    )
 
 returns : tie.Need-returns Inv-loop μ-loop
-unfolding countedAll
-returns c = filling-whole _ _ 8 (c .before .loop .place) _ (c .before .loop .inv .2 .filled) (omega arith)
+unfolding countedAllIn
+returns c = filling-whole _ _ 8 (c .before .loop .place) _ (c .before .loop .inv .2) (omega arith)
 
 pub count-all-spec : {M : Type 1} → statement M
 count-all-spec =
@@ -119,6 +128,7 @@ count-all-spec =
     (tie.spec
     Inv-loop
     μ-loop
+    shares-requires
     next-set-requires
     loop-holds
     cast-at
@@ -126,12 +136,8 @@ count-all-spec =
     array-copy-out-genset
     mul-state
     array-copy-out-state
-    cast-sum
-    add-sum
-    mul-upto
-    div-upto
-    sub-power
-    cast-power
+    mul-count
+    array-read-count
     count-requires
     mul-out
     array-set-from-out

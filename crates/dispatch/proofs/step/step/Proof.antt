@@ -1,73 +1,77 @@
 -- `dispatch::step::step` meets its contract. Assumes nothing.
-use Prim.Native.Nat.{ℕ, _≤_, _<_}
-use mathlib.Core.Path.{_≡_, refl, sym, ap, _∙_}
-use native.Mathlib.Omega.{arith}
 use denote.Ref.{now}
-use lib.ListN.{length, length-map}
-use Rattle.rules.specs.declared.run.Step.{Step}
-use Rattle.dispatch.specs.Parts.{runOf}
-use Rattle.rules.specs.Second.{wattsNow}
-use Rattle.rules.proofs.Shapes.{Tables}
-use Rattle.dispatch.proofs.Ready.{wantable, switchable, call-most, totals-small}
-use Rattle.dispatch.proofs.Steps.{call-now, step-now}
+use Rattle.dispatch.proofs.StepsTaken.{stepped-by}
 use borrow.Author.Needs.{needs}
 use Rattle.dispatch.proofs.step.step.Statement.{statement}
 use Rattle.dispatch.proofs.step.step.Tie as tie
 
--- the station's tables have their lengths
-tables : (c : tie.Start) → Tables (c .args .st)
-tables c =
-    let good = c .good .0 .1 .1 .1 .1 .1 .1 in
-    record { sets-length = simp length-map at (good .0 .1 .0 .1); configs-length = simp length-map at (good .1 .0 .1 .0 .1) }
+tick-all-requires : tie.Need-tick-all-requires
+tick-all-requires c κs = search needs
 
-supply-requires : tie.Need-supply-requires
-supply-requires c κs = let start = c .before .before .before in (start .pre .0, start .pre .2)
+on-mask-requires : tie.Need-on-mask-requires
+on-mask-requires c κs = search needs
 
-wanted-now-requires : tie.Need-wanted-now-requires
-wanted-now-requires c κs =
-    let supplied = c .before .before .before .before in
-    let start = supplied .before .before .before .before in
-    rw (supplied .supply .ensures .watts) (wantable (start .args .st) (tables start) (runOf (start .args .moment) (start .args .before) (now (start .args .decided))) (start .args .inputs) (start .pre .0))
+capacity-fitting-requires : tie.Need-capacity-fitting-requires
+capacity-fitting-requires c κs = search needs
+
+floor-load-requires : tie.Need-floor-load-requires
+floor-load-requires c κs = search needs
+
+oldest-requires : tie.Need-oldest-requires
+oldest-requires c κs = search needs
+
+meet-load-requires : tie.Need-meet-load-requires
+meet-load-requires c κs = search needs
+
+decide-requires : tie.Need-decide-requires
+decide-requires c κs = search needs
+
+count-all-requires : tie.Need-count-all-requires
+count-all-requires c κs = search needs
+
+barred-mask-requires : tie.Need-barred-mask-requires
+barred-mask-requires c κs = search needs
 
 commit-requires : tie.Need-commit-requires
-commit-requires c κs =
-    let supplied = c .before .before .before .before .before in
-    let start = supplied .before .before .before .before in
-    (rw (supplied .supply .ensures .states) (switchable (start .args .st) (tables start) (runOf (start .args .moment) (start .args .before) (now (start .args .decided))) (start .args .inputs) (start .pre .0) (wattsNow (start .args .st) (runOf (start .args .moment) (start .args .before) (now (start .args .decided))) (start .args .inputs))), start .pre .1)
+commit-requires c κs = search needs
 
 moment-after-requires : tie.Need-moment-after-requires
-moment-after-requires c κs =
-    let start = c .before .before .before .before .before .before .before .before .before .before .before in
-    (totals-small (start .args .st) (tables start) (runOf (start .args .moment) (start .args .before) (now (start .args .decided))) (start .args .inputs) (start .pre .0), omega (arith, start .pre .0 .not-ended))
+moment-after-requires c κs = search needs
+
+mask-called-requires : tie.Need-mask-called-requires
+mask-called-requires c κs = search needs
+
+command-all-requires : tie.Need-command-all-requires
+command-all-requires c κs = search needs
 
 row-of-requires : tie.Need-row-of-requires
-row-of-requires c κs =
-    let committed = c .before .before in
-    let wanted = committed .before in
-    let supplied = wanted .before .before .before .before .before in
-    let start = supplied .before .before .before .before in
-    omega (arith, call-now (start .args .st) (runOf (start .args .moment) (start .args .before) (now (start .args .decided))) (start .args .inputs) _ _ (supplied .supply .ensures) _ (wanted .wanted-now .ensures) _ (committed .commit .ensures), call-most (start .args .st) (tables start) (runOf (start .args .moment) (start .args .before) (now (start .args .decided))) (start .args .inputs) (start .pre .0))
+row-of-requires c κs = search needs
 
 same-length : tie.Need-same-length
 same-length c = search needs
 
 returns : tie.Need-returns
 returns c =
-    let committed = c .before .before .before in
-    let wanted = committed .before in
-    let supplied = wanted .before .before .before .before .before in
-    let start = supplied .before .before .before .before in
-    let same = step-now (start .args .st) (runOf (start .args .moment) (start .args .before) (now (start .args .decided))) (start .args .inputs) _ _ (supplied .supply .ensures) _ (wanted .wanted-now .ensures) _ (committed .commit .ensures) _ refl _ refl in
-    rw (c .before .moment-after .ensures, c .row-of .ensures) (record { after = ap (λ (z : Step). z .run) same; row = ap (λ (z : Step). z .row) same })
+    let a = c .before .before .before .before .before .before .before .before .before .before .before .before .before .before .before .before .before .before .before .before .before .before .args in
+    stepped-by (a .st) (now (a .caps)) (a .before) (a .moment) (now (a .decided)) (a .inputs) _ (c .before .before .before .before .before .before .before .before .before .before .before .before .before .before .before .before .before .before .before .tick-all .ensures) _ (c .before .before .before .before .before .before .before .before .before .before .before .before .before .before .before .before .before .before .on-mask .ensures .0) _ (c .before .before .before .before .before .before .before .before .before .before .before .before .before .before .before .before .before .capacity-fitting .ensures) _ (c .before .before .before .before .before .before .before .before .before .before .before .before .before .before .before .before .floor-load .ensures) _ (c .before .before .before .before .before .before .before .before .before .before .before .before .before .before .oldest .ensures) _ (c .before .before .before .before .before .before .before .before .before .before .before .before .before .meet-load .ensures) _ (c .before .before .before .before .before .before .before .before .before .before .decide .ensures) _ (c .before .before .before .before .before .before .before .count-all .ensures) _ (c .before .before .before .before .before .before .barred-mask .ensures .0) _ (c .before .before .before .before .before .commit .ensures) _ (c .before .before .mask-called .ensures .0) _ (c .before .before .before .moment-after .ensures) (c .before .command-all .ensures) (c .row-of .ensures)
 
 pub step-spec : {M : Type 1} → statement M
 step-spec =
     tie.close
     (tie.spec
-    supply-requires
-    wanted-now-requires
+    tick-all-requires
+    on-mask-requires
+    capacity-fitting-requires
+    floor-load-requires
+    oldest-requires
+    meet-load-requires
+    decide-requires
+    count-all-requires
+    barred-mask-requires
     commit-requires
     moment-after-requires
+    mask-called-requires
+    command-all-requires
     row-of-requires
     same-length
     returns)

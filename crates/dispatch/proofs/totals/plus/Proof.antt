@@ -35,7 +35,7 @@ returns c =
     let after-more3 = c .before .before .before .before .before .before in
     let after-more2 = after-more3 .before in
     let after-more = after-more2 .before in
-    simp (after-more .more .ensures, after-more2 .more2 .ensures, after-more3 .more3 .ensures, c .before .before .before .before .before .more4 .ensures, c .before .before .before .before .more5 .ensures, c .before .before .before .more6 .ensures, c .before .before .more7 .ensures, c .before .more8 .ensures, c .more9 .ensures)
+    rw (after-more .more .ensures, after-more2 .more2 .ensures, after-more3 .more3 .ensures, c .before .before .before .before .before .more4 .ensures, c .before .before .before .before .more5 .ensures, c .before .before .before .more6 .ensures, c .before .before .more7 .ensures, c .before .more8 .ensures, c .more9 .ensures)
 
 pub plus-spec : {M : Type 1} → statement M
 plus-spec =

@@ -10,8 +10,8 @@ returns c =
     let a = c .before .before .args in
     takes-nothing (a .battery) (a .store) (a .surplus) (search needs)
 
-over-u64-requires : tie.Need-over-u64-requires
-over-u64-requires c κs = search needs
+over-requires : tie.Need-over-requires
+over-requires c κs = search needs
 
 cast-room : tie.Need-cast-room
 cast-room c = search needs
@@ -27,14 +27,14 @@ smaller-requires c κs = search needs
 
 returns-2 : tie.Need-returns-2
 unfolding batteryTakes
-returns-2 c = simp (c .smaller .ensures, c .before .at-most .ensures, c .before .before .before .over-u64 .ensures)
+returns-2 c = simp (c .smaller .ensures, c .before .at-most .ensures, c .before .before .before .over .ensures)
 
 pub battery-takes-spec : {M : Type 1} → statement M
 battery-takes-spec =
     tie.close
     (tie.spec
     returns
-    over-u64-requires
+    over-requires
     cast-room
     div-room
     at-most-requires

@@ -8,23 +8,23 @@ use Rattle.flows.proofs.battery.store_after.Tie as tie
 cast-efficiency : tie.Need-cast-efficiency
 cast-efficiency c = search needs
 
-mul-over-u64 : tie.Need-mul-over-u64
-mul-over-u64 c = record { fits = product-fits 32 (search needs) (search needs) }
+mul-over : tie.Need-mul-over
+mul-over c = record { fits = product-fits 32 (search needs) (search needs) }
 
-add-over-u64 : tie.Need-add-over-u64
-add-over-u64 c = search needs
+add-over : tie.Need-add-over
+add-over c = search needs
 
-mul-over-u64-2 : tie.Need-mul-over-u64-2
-mul-over-u64-2 c = record { fits = product-fits 32 (search needs) (search needs) }
+mul-over-2 : tie.Need-mul-over-2
+mul-over-2 c = record { fits = product-fits 32 (search needs) (search needs) }
 
-over-u64-requires : tie.Need-over-u64-requires
-over-u64-requires c κs = search needs
+over-requires : tie.Need-over-requires
+over-requires c κs = search needs
 
 returns : tie.Need-returns
 unfolding storeAfter
-returns c = c .over-u64 .ensures
+returns c = c .over .ensures
 
 pub store-after-spec : {M : Type 1} → statement M
 store-after-spec =
     tie.close
-    (tie.spec cast-efficiency mul-over-u64 add-over-u64 mul-over-u64-2 over-u64-requires returns)
+    (tie.spec cast-efficiency mul-over add-over mul-over-2 over-requires returns)

@@ -71,7 +71,7 @@ unfolding runningTotal capacity
 returns c =
     let at = c .before .loop in
     let s = c .before .before .before .args in
-    at .inv .1 ∙ walk-end (ratingOf (s .t1)) (s .mask) (at .i) (at .inv .0) (omega arith)
+    (at .inv .1 ∙ walk-end (ratingOf (s .t1)) (s .mask) (at .i) (at .inv .0) (omega arith), omega (arith, at .inv .2, at .inv .0 .range))
 
 pub capacity-spec : {M : Type 1} → statement M
 capacity-spec =

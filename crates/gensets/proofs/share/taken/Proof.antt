@@ -4,7 +4,7 @@ use Prim.Native.Nat.{_-_}
 use native.Mathlib.Omega.{arith}
 use Rattle.rules.specs.StationRecord.{pastEnd, setAt}
 use Rattle.words.proofs.Walk.{forward}
-use Rattle.gensets.proofs.SharesWalk.{Shared, started, ended, within-capacity, product-small, given-rises, takes-rating, turned}
+use Rattle.gensets.proofs.SharesWalk.{Shared, started, ended, within-capacity, given-rises, takes-rating, turned}
 use Rattle.gensets.proofs.share.taken.Statement.{statement}
 use Rattle.gensets.proofs.share.taken.Tie as tie
 use Rattle.gensets.proofs.share.taken.Reads as reads
@@ -34,39 +34,27 @@ mul-g c = search needs
 array-copy-out-g : tie.Need-array-copy-out-g Inv-loop μ-loop
 array-copy-out-g c = search needs
 
-cast-rating : tie.Need-cast-rating Inv-loop μ-loop
-cast-rating c = search needs
-
 add-sum : tie.Need-add-sum Inv-loop μ-loop
 unfolding setAt pastEnd
 add-sum c =
-    let s = c .before .before .before .before .before in
-    let at = c .before .before .before .loop in
-    record { fits = omega (arith, s .pre .small, within-capacity (s .pre) (at .inv) (search needs)) }
+    let at = c .before .before .before in
+    let asked = at .before .before .pre in
+    record { fits = omega (arith, asked .small, within-capacity asked (at .loop .inv) (search needs)) }
 
-mul-upto : tie.Need-mul-upto Inv-loop μ-loop
-unfolding setAt pastEnd
-mul-upto c =
-    let s = c .before .before .before .before .before in
-    let at = c .before .before .before .loop in
-    record { fits = omega (arith, product-small (s .pre) (at .inv) (search needs)) }
-
-div-upto : tie.Need-div-upto Inv-loop μ-loop
-div-upto c = let s = c .before .before .before .before .before in omega (arith, s .pre .some, s .pre .allowed)
+upto-requires : tie.Need-upto-requires Inv-loop μ-loop
+upto-requires c κs = search needs
 
 sub-out : tie.Need-sub-out Inv-loop μ-loop
 unfolding setAt pastEnd
 sub-out c =
-    let s = c .before .before .before .before .before in
-    let at = c .before .before .before .loop in
-    given-rises (s .pre) (at .inv) (search needs)
+    let at = c .before .before .before .before in
+    rw (c .upto .ensures) (given-rises (at .before .before .pre) (at .loop .inv) (search needs))
 
 cast-out : tie.Need-cast-out Inv-loop μ-loop
 unfolding setAt pastEnd
 cast-out c =
-    let s = c .before .before .before .before .before in
-    let at = c .before .before .before .loop in
-    record { fits = omega (arith, takes-rating (s .pre) (at .inv) (search needs)) }
+    let at = c .before .before .before .before in
+    record { fits = rw (c .upto .ensures) (omega (arith, takes-rating (at .before .before .pre) (at .loop .inv) (search needs))) }
 
 mul-out : tie.Need-mul-out Inv-loop μ-loop
 mul-out c = search needs
@@ -86,9 +74,8 @@ loop-less c = omega (arith, forward _ _ _ (c .next-set2 .ensures))
 loop-again : tie.Need-loop-again Inv-loop μ-loop
 unfolding setAt pastEnd
 loop-again c =
-    let s = c .before .before .before .before .before .before in
-    let at = c .before .before .before .before .loop in
-    rw (c .next-set2 .ensures) (turned (s .pre) (at .inv) (search needs))
+    let at = c .before .before .before .before .before in
+    rw (c .next-set2 .ensures, c .before .upto .ensures) (turned (at .before .before .pre) (at .loop .inv) (search needs))
 
 returns : tie.Need-returns Inv-loop μ-loop
 returns c =
@@ -107,10 +94,8 @@ taken-spec =
     cast-at
     mul-g
     array-copy-out-g
-    cast-rating
     add-sum
-    mul-upto
-    div-upto
+    upto-requires
     sub-out
     cast-out
     mul-out

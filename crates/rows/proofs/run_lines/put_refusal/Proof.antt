@@ -5,6 +5,7 @@ use denote.Ref.{now}
 use borrow.Author.Needs.{needs}
 use Rattle.rules.specs.Bytes.{bytes, commaLine}
 use Rattle.rules.specs.Row.{refusalLine}
+use Rattle.rows.proofs.Lengths.{line-fits}
 use Rattle.rows.proofs.Texts.{goes-on}
 use Rattle.rows.proofs.RowInBuffer.{text-refused, text-written}
 use Rattle.rows.proofs.run_lines.put_refusal.Statement.{statement}
@@ -23,7 +24,8 @@ slice-aggregate-put-numbers : tie.Need-slice-aggregate-put-numbers
 slice-aggregate-put-numbers c = search needs
 
 put-numbers-requires : tie.Need-put-numbers-requires
-put-numbers-requires c κs = (omega arith, omega (arith, c .before .before .before .before .before .before .before .if1 .left, c .before .before .before .before .put-text .ensures .0, c .before .before .before .before .put-text .kept .1 .0))
+put-numbers-requires c κs =
+    line-fits _ _ _ (omega arith) (omega arith, (omega arith, tt)) (omega (arith, c .before .before .before .before .before .before .before .if1 .left, c .before .before .before .before .put-text .ensures .0, c .before .before .before .before .put-text .kept .1 .0))
 
 same-length : tie.Need-same-length
 same-length c = search needs

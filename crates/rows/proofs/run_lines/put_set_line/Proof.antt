@@ -5,6 +5,7 @@ use native.Mathlib.Omega.{arith}
 use denote.Ref.{now}
 use borrow.Author.Needs.{needs}
 use Rattle.rows.specs.SetLine.{setLine}
+use Rattle.rows.proofs.Lengths.{line-fits}
 use Rattle.rows.proofs.Texts.{goes-on}
 use Rattle.rows.proofs.RowInBuffer.{text-refused, text-written}
 use Rattle.rows.proofs.run_lines.put_set_line.Statement.{statement}
@@ -26,7 +27,8 @@ slice-aggregate-put-numbers : tie.Need-slice-aggregate-put-numbers
 slice-aggregate-put-numbers c = search needs
 
 put-numbers-requires : tie.Need-put-numbers-requires
-put-numbers-requires c κs = (omega arith, omega (arith, c .before .before .before .before .before .if1 .left))
+put-numbers-requires c κs =
+    line-fits _ _ _ (omega arith) (omega arith, (omega arith, (omega arith, (omega arith, (omega arith, (omega arith, tt)))))) (omega (arith, c .before .before .before .before .before .if1 .left))
 
 same-length : tie.Need-same-length
 same-length c = search needs

@@ -10,7 +10,7 @@ use Rattle.words.proofs.little.little.Statement.{statement}
 use Rattle.words.proofs.little.little.Tie as tie
 use Rattle.words.proofs.little.little.Reads as reads
 use Rattle.words.proofs.little.little.Lts as lts
-use Rattle.words.proofs.little.lesser.Reads as lesser-reads
+use Rattle.words.proofs.arithmetic.lesser.Reads as lesser-reads
 use Rattle.words.proofs.little.wide.Reads as wide-reads
 
 abbrev Inv-loop : tie.InvT-loop
@@ -19,49 +19,40 @@ Inv-loop part at₀ number₀ at number = (at ≤ at₀) × (at₀ ≡ min 8 (le
 abbrev μ-loop : tie.MeasureT-loop
 μ-loop part at₀ number₀ at number = at
 
--- src/little.rt:25:9
 lesser-requires : tie.Need-lesser-requires Inv-loop μ-loop
 lesser-requires c κs = search needs
 
--- src/little.rt:27:5
 loop-holds : tie.Need-loop-holds Inv-loop μ-loop
 loop-holds c =
     let s = c .before .before .args .part .now in
-    let e = c .lesser .ensures .2 in
+    let e = c .lesser .ensures in
     let k : c .lesser .result - c .lesser .result ≡ 0 = omega arith in
     (omega arith, e, read-none (c .lesser .result) s e, rw k (omega arith))
 
--- src/little.rt:28:9
 sub-at : tie.Need-sub-at Inv-loop μ-loop
 sub-at c = search needs
 
--- src/little.rt:29:18
 mul-number : tie.Need-mul-number Inv-loop μ-loop
 mul-number c =
     let at = c .before in
     let most = at .before .lesser .result in
     record { fits = omega (arith, below-most (suc (most - at .loop .at)) _ (search needs) (below-turn (most - at .loop .at) (at .loop .number) 0 (at .loop .inv .3) (omega arith))) }
 
--- src/little.rt:29:38
 shared-slice-read-wide : tie.Need-shared-slice-read-wide Inv-loop μ-loop
 shared-slice-read-wide c = search needs
 
--- src/little.rt:29:33
 wide-requires : tie.Need-wide-requires Inv-loop μ-loop
 wide-requires c κs = search needs
 
--- src/little.rt:29:18
 add-number : tie.Need-add-number Inv-loop μ-loop
 add-number c =
     let at = c .before .before .before in
     let most = at .before .lesser .result in
     record { fits = below-most (suc (most - at .loop .at)) _ (search needs) (below-turn (most - at .loop .at) (at .loop .number) (c .wide .result) (at .loop .inv .3) (c .wide .ensures .1)) }
 
--- src/little.rt:27:5
 loop-less : tie.Need-loop-less Inv-loop μ-loop
 loop-less c = search needs
 
--- src/little.rt:27:5
 loop-again : tie.Need-loop-again Inv-loop μ-loop
 loop-again c =
     let at = c .before .before .before in
@@ -71,7 +62,6 @@ loop-again c =
     let p : 0 < at .loop .at = search needs in
     (omega arith, i .1, read-turn (at .loop .at) (at .loop .number) (c .wide .result) s p (omega (arith, i .0, i .1)) (omega (arith, i .0, i .1)) (i .2) (c .wide .ensures .0), below-next most (at .loop .at) (at .loop .number) (c .wide .result) p (i .0) (i .3) (c .wide .ensures .1))
 
--- src/little.rt:21:1
 returns : tie.Need-returns Inv-loop μ-loop
 returns c =
     let i = c .before .loop .inv in

@@ -1,0 +1,27 @@
+-- Rows of thirteen numbers, in the heading's order, as lines; and what such rows that are put into a buffer owe.
+use Prim.Native.Nat.{ℕ, zero, suc, _+_, _*_, _≤_, _<_}
+use mathlib.Core.List.{List, [], _∷_, _++_}
+use lib.ListN.{length, take, drop}
+use Rattle.rules.specs.declared.run.Row.{Row}
+use Rattle.rules.specs.Bytes.{commaLine}
+use Rattle.rules.specs.Row.{rowText}
+use Rattle.rows.specs.Written.{Front}
+use Rattle.rows.specs.declared.put_rows.RowsPut.{RowsPut}
+
+-- the rows' bytes
+unfoldable pub textOf : List Row → List ℕ
+textOf [] = []
+textOf (r ∷ rows) = rowText r ++ textOf rows
+
+-- the lines of the first `count` thirteens
+unfoldable pub linesOf : ℕ → List ℕ → List ℕ
+linesOf zero numbers = []
+linesOf (suc count) numbers = commaLine (take 13 numbers) ++ linesOf count (drop 13 numbers)
+
+-- What rows that are put into a buffer owe.
+pub record LinesPut (numbers lent : List ℕ) (p : RowsPut) (left : List ℕ) : Type 0 where
+  -- their lines stand at the front, and the bytes past them stay
+  pub front : Front lent (linesOf (p .count) numbers) (p .bytes) left
+  pub whole : 13 * p .count ≤ length numbers
+  -- as many as have room: of a row that is left the line does not fit
+  pub ends : 13 * p .count + 13 ≤ length numbers → length lent < p .bytes + length (commaLine (take 13 (drop (13 * p .count) numbers)))
