@@ -27,7 +27,8 @@ use Rattle.course.specs.declared.state.Moved.{Moved}
 use Rattle.course.specs.Rows.{rowsOf, runAfter, AllRuled, AllRight}
 use Rattle.course.specs.Coming.{inputsAll, Coming, ComesOn, unended, weight}
 use Rattle.course.specs.Moves.{HaltedFor, Moves, withSource, waitingFor, NoInputs, haltFor, withSeconds, cameIn, SecondsMoved}
-use Rattle.course.proofs.Worked.{Some, some-worked, All, all-worked, rows-length}
+use Rattle.course.proofs.RowLaws.{rows-length}
+use Rattle.course.proofs.Worked.{Some, some-worked, All, all-worked}
 use Rattle.course.proofs.InputsRight.{held-right, first-right, drop-right, in-length}
 
 opposite : {A : Type 0} (b : Bool) → b ≡ true → b ≡ false → A

@@ -18,21 +18,10 @@ use Rattle.rules.specs.Answers.{Answer, accepted, refused}
 use Rattle.rules.specs.StationRecord.{someFileGives}
 use Rattle.rules.specs.RunRecord.{possible, mostSeconds}
 use Rattle.rules.specs.Second.{step, recordAfter, second, admitted, inputsRight}
-use Rattle.rules.specs.Seconds.{numbersOf, ruled, Came, cameOn, cameTo}
+use Rattle.rules.specs.Seconds.{ruled, Came, cameOn, cameTo}
 use Rattle.rules.proofs.Shapes.{Tables}
 use Rattle.laws.proofs.Kept.{admitted-of, second-kept}
 use Rattle.course.specs.Rows.{rowsOf, runAfter, AllRuled, Right, AllRight, none, more}
-
--- a row has thirteen numbers
-pub numbers-length : (rows : List Row) → length (numbersOf rows) ≡ 13 * length rows
-unfolding numbersOf
-numbers-length [] = refl
-numbers-length (r ∷ rows) = omega (arith, numbers-length rows)
-
-pub rows-length : (st : Station) (xs : List Inputs) (r : Run) → length (rowsOf st xs r) ≡ length xs
-unfolding rowsOf
-rows-length st [] r = refl
-rows-length st (x ∷ xs) r = ap suc (rows-length st xs (step st r x .run))
 
 module _ (st : Station) where
   -- ---- whatever the inputs are

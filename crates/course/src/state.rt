@@ -52,7 +52,7 @@ pub fn set_states(course: Course) -> [SetState; 8]
 }
 
 // How many seconds are still to be worked.
-pub fn seconds_left(course: Course) -> u32
+pub fn seconds_to_work(course: Course) -> u32
     ensures { λ r. ⌜ r ≡ course .left ⌝ }
 {
     course.left

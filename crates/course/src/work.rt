@@ -1,6 +1,6 @@
 // Some seconds: their inputs from the source, as many as the chunk tells and the lent rows have places for, and their rows.
 ghost use mathlib.Core.Path.{_≡_};
-ghost use Prim.Native.Nat.{_≤_, _-_, _*_, min};
+ghost use Prim.Native.Nat.{_≤_, _-_, _*_};
 ghost use lib.ListN.{length, take};
 ghost use Rattle.rules.specs.Seconds.{inputsEach};
 ghost use Rattle.samples.specs.Held.{inputsIn};
@@ -14,6 +14,8 @@ use samples::inputs::InputSource;
 use samples::inputs::end_inputs;
 use samples::inputs::fill;
 use samples::inputs::has_ended;
+use words::arithmetic::lesser;
+use words::arithmetic::wide;
 
 // The most seconds of one call.
 const MOST_BATCH: usize = 512;
@@ -21,18 +23,12 @@ const MOST_BATCH: usize = 512;
 // A row's numbers.
 const ROW_NUMBERS: usize = 13;
 
-fn lesser(a: usize, b: usize) -> usize
-    ensures { λ r. ⌜ (r ≤ a) × (r ≤ b) × (r ≡ min a b) ⌝ }
-{
-    if a < b { a } else { b }
-}
-
 // How many seconds one call works: as many as have places for their rows.
 fn batch(left: u32, places: usize) -> usize
     requires { ⌜ (1 ≤ left) × (1 ≤ places) ⌝ }
     ensures { λ r. ⌜ (1 ≤ r) × (r ≤ 512) × (r ≤ left) × (r ≤ places) ⌝ }
 {
-    lesser(lesser(left as usize, MOST_BATCH), places)
+    lesser(lesser(wide(left), MOST_BATCH), places)
 }
 
 fn with_source(course: Course, source: InputSource) -> Course

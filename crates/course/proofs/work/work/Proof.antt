@@ -9,7 +9,7 @@ use Rattle.course.proofs.work.work.Tie as tie
 use Rattle.course.proofs.work.work.Reads as reads
 use Rattle.course.proofs.work.work.Lts as lts
 use Rattle.course.proofs.work.batch.Reads as batch-reads
-use Rattle.course.proofs.work.lesser.Reads as lesser-reads
+use Rattle.words.proofs.arithmetic.lesser.Reads as lesser-reads
 use Rattle.course.proofs.work.some_seconds.Reads as some-seconds-reads
 use Rattle.course.proofs.work.waiting.Reads as waiting-reads
 
@@ -23,7 +23,7 @@ waiting-requires c κs = search needs
 
 -- src/work.rt:188:9
 returns : tie.Need-returns
-returns c = rw (c .waiting .ensures) (none-left (c .before .before .before .before .before .args .course) (now (c .before .before .before .before .before .args .chunk)) (c .before .before .before .before .before .args .at) (c .before .before .before .before .before .args .ended) (now (c .before .before .before .before .before .args .rows)) _ (c .before .before .lesser .ensures .2) (c .before .if1 .taken))
+returns c = rw (c .waiting .ensures) (none-left (c .before .before .before .before .before .args .course) (now (c .before .before .before .before .before .args .chunk)) (c .before .before .before .before .before .args .at) (c .before .before .before .before .before .args .ended) (now (c .before .before .before .before .before .args .rows)) _ (c .before .before .lesser .ensures) (c .before .if1 .taken))
 
 -- src/work.rt:192:9
 waiting-requires-2 : tie.Need-waiting-requires-2
@@ -31,7 +31,7 @@ waiting-requires-2 c κs = search needs
 
 -- src/work.rt:192:9
 returns-2 : tie.Need-returns-2
-returns-2 c = rw (c .waiting2 .ensures) (no-room (c .before .before .before .before .before .before .args .course) (now (c .before .before .before .before .before .before .args .chunk)) (c .before .before .before .before .before .before .args .at) (c .before .before .before .before .before .before .args .ended) (now (c .before .before .before .before .before .before .args .rows)) _ (c .before .before .before .lesser .ensures .2) (c .before .if2 .taken))
+returns-2 c = rw (c .waiting2 .ensures) (no-room (c .before .before .before .before .before .before .args .course) (now (c .before .before .before .before .before .before .args .chunk)) (c .before .before .before .before .before .before .args .at) (c .before .before .before .before .before .before .args .ended) (now (c .before .before .before .before .before .before .args .rows)) _ (c .before .before .before .lesser .ensures) (c .before .if2 .taken))
 
 -- src/work.rt:194:9
 batch-requires : tie.Need-batch-requires
