@@ -69,7 +69,7 @@ rows-short st tables (x ∷ xs) r a =
 
 -- ---- some seconds
 
-module _ (t : Turn) (chunk : List ℕ) (ended : Bool) (out lent : List ℕ) (asked : SomeAsked t chunk lent out) (tables : Tables (t .simulation .course .station))
+module _ (t : Turn) (chunk : List ℕ) (ended : Bool) (out lent : List ℕ) (out-in : t .written ≤ length out) (asked : SomeAsked t chunk lent out) (tables : Tables (t .simulation .course .station))
     (m : moves.Moved) (left : List ℕ) (mv : Moves (t .simulation .course) chunk (t .next) ended lent m left) where
   abbrev s : Simulation
   s = t .simulation
@@ -88,7 +88,7 @@ module _ (t : Turn) (chunk : List ℕ) (ended : Bool) (out lent : List ℕ) (ask
 
   -- 153 bytes for each of them have room
   pub text-room : t .written + length text ≤ length out
-  text-room = omega (arith, rows-short (c .station) tables (mv .worked) (c .run) (mv .ruled), few, asked .want-room, asked .written-in)
+  text-room = omega (arith, rows-short (c .station) tables (mv .worked) (c .run) (mv .ruled), few, asked .want-room, out-in)
 
   size-of : length (numbersOf rows) ≡ 13 * m .seconds
   size-of = numbers-length rows ∙ ap (λ (n : ℕ). 13 * n) (rows-length (c .station) (mv .worked) (c .run) ∙ sym (mv .counts))

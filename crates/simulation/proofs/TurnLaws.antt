@@ -50,10 +50,10 @@ module _ (out text : List ℕ) (at : ℕ) (h : at + length text ≤ length out) 
 
 -- ---- rows of some seconds and then of others
 
-text-split : (as bs : List Row) → lines.textOf (as ++ bs) ≡ lines.textOf as ++ lines.textOf bs
+text-split : (xs ys : List Row) → lines.textOf (xs ++ ys) ≡ lines.textOf xs ++ lines.textOf ys
 unfolding lines.textOf
-text-split [] bs = refl
-text-split (a ∷ as) bs = ap (λ (l : List ℕ). rowText a ++ l) (text-split as bs) ∙ sym (append-assoc (rowText a) (lines.textOf as) (lines.textOf bs))
+text-split [] ys = refl
+text-split (x ∷ xs) ys = ap (λ (l : List ℕ). rowText x ++ l) (text-split xs ys) ∙ sym (append-assoc (rowText x) (lines.textOf xs) (lines.textOf ys))
 
 texts-split : (st : Station) (xs ys : List Inputs) (r : Run) → rowTexts st (xs ++ ys) r ≡ rowTexts st xs r ++ rowTexts st ys (runAfter st xs r)
 texts-split st xs ys r = ap lines.textOf (rows-split st xs ys r) ∙ text-split (rowsOf st xs r) (rowsOf st ys (runAfter st xs r))

@@ -152,7 +152,6 @@ withRows t m bytes =
 pub record SomeAsked (t : Turn) (chunk lent out : List ℕ) : Type 0 where
   pub phase-is : t .simulation .phase ≡ Phase.Seconds
   pub next-in : t .next ≤ length chunk
-  pub written-in : t .written ≤ length out
   pub some-left : 1 ≤ t .simulation .course .left
   pub some : 13 ≤ length lent
   pub want-room : 153 * (length lent / 13) + 103 ≤ length out - t .written

@@ -77,7 +77,7 @@ fn wants_for(halt: Halt) -> Wants
 
 // As many seconds as the lent rows have places for, and the text of their rows into the buffer's tail.
 fn some_rows(t: Turn, chunk: &[u8], ended: bool, rows: &mut [u64], out: &mut [u8]) -> Turn
-    requires { ⌜ SomeAsked t (now chunk) (now rows) (now out) ⌝ }
+    requires { ⌜ (t .written ≤ length (now out)) × SomeAsked t (now chunk) (now rows) (now out) ⌝ }
     ensures { λ r. ⌜ Moved t (now (chunk .entry)) ended (now (out .entry)) r (now (out .exit)) ⌝ }
 {
     let simulation = t.simulation;

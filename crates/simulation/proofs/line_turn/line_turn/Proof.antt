@@ -5,9 +5,8 @@ use native.Mathlib.Omega.{arith}
 use denote.Ref.{now}
 use lib.ListN.{length, drop}
 use Rattle.rows.specs.Written.{TextPut}
-use Rattle.dispatch.proofs.Going.{rest-is}
 use Rattle.simulation.specs.Text.{lineOf}
-use Rattle.simulation.proofs.LineLaws.{line-room, line-moves, line-waits}
+use Rattle.simulation.proofs.LineLaws.{rest-is, line-room, line-moves, line-waits}
 use borrow.Author.Needs.{needs}
 use Rattle.simulation.proofs.line_turn.line_turn.Statement.{statement}
 use Rattle.simulation.proofs.line_turn.line_turn.Tie as tie
@@ -19,13 +18,16 @@ use Rattle.simulation.proofs.line_turn.waiting.Reads as waiting-reads
 use Rattle.simulation.proofs.line_turn.with_phase.Reads as with-phase-reads
 
 -- the line stands in the tail that was lent
-owes : (c : tie.After-put-line-of) → TextPut (lineOf (c .before .before .before .before .before .before .args .t .simulation .phase) (c .before .before .before .before .before .before .args .t .simulation .run .sets)) (drop (c .before .before .before .before .before .before .args .t .written) (now (c .before .before .before .before .before .before .args .out))) (c .put-line-of .result) (c .put-line-of .last .1 .1 .0)
-owes c = rw rest-is at (c .put-line-of .ensures)
+owes : (c : tie.After-put-line-of) → TextPut (lineOf (c .before .before .before .before .before .before .args .t .simulation .phase) (c .before .before .before .before .before .before .args .t .simulation .course .run .sets)) (drop (c .before .before .before .before .before .before .args .t .written) (now (c .before .before .before .before .before .before .args .out))) (c .put-line-of .result) (c .put-line-of .last .1 .1 .0)
+owes c = rw (c .before .before .set-states .ensures) at (rw rest-is at (c .put-line-of .ensures))
 
 same-size : (c : tie.After-put-line-of) → length (c .put-line-of .last .1 .1 .0) ≡ length (drop (c .before .before .before .before .before .before .args .t .written) (now (c .before .before .before .before .before .before .args .out)))
 same-size c =
     let start = c .before .before .before .before .before .before in
     c .put-line-of .kept .1 .1 .0 ∙ ap length (rest-is (now (start .args .out)) (start .args .t .written))
+
+set-states-requires : tie.Need-set-states-requires
+set-states-requires c κs = search needs
 
 -- src/line_turn.rt:127:45
 sub-put-line-of : tie.Need-sub-put-line-of
@@ -96,6 +98,7 @@ pub line-turn-spec : {M : Type 1} → statement M
 line-turn-spec =
     tie.close
     (tie.spec
+    set-states-requires
     sub-put-line-of
     part-put-line-of-start
     part-put-line-of-end
