@@ -1,6 +1,6 @@
 -- What a run begins with, by what its files and the seconds asked come to. Assumes nothing.
 use Prim.Native.Nat.{ℕ, _≤_}
-use mathlib.Core.Path.{_≡_, refl, sym, ap, _∙_, subst}
+use mathlib.Core.Path.{_≡_, refl, sym, subst}
 use mathlib.Core.Bool.{false}
 use mathlib.Core.List.{List}
 use native.Mathlib.Omega.{arith}
@@ -9,7 +9,6 @@ use borrow.Author.Tests.{leb-true}
 use Rattle.rules.specs.declared.answers.Refusal.{Refusal}
 use Rattle.rules.specs.declared.run.Run.{Run}
 use Rattle.rules.specs.declared.station.Station.{Station}
-use Rattle.rules.specs.Numbers as numbers
 use Rattle.rules.specs.Answers.{Answer, accepted, refused, judged, valueOr, numberAndPlace, refusalOf}
 use Rattle.rules.specs.StationRecord as records
 use Rattle.rules.specs.StationRecord.{noStation, someFileGives}

@@ -1,11 +1,11 @@
 -- What a call of many seconds comes to: the seconds that it accepted, in their order; and it accepts all of them where their inputs are
 -- right and their rows have places. Assumes nothing.
-use Prim.Native.Nat.{ℕ, zero, suc, _+_, _*_, _≤_, _<_}
+use Prim.Native.Nat.{ℕ, zero, suc, _+_, _≤_, _<_}
 use mathlib.Core.Path.{_≡_, refl, sym, ap, _∙_}
-use mathlib.Core.Bool.{Bool, true}
+use mathlib.Core.Bool.{true}
 use mathlib.Core.List.{List, [], _∷_, _++_}
 use native.Mathlib.Omega.{arith}
-use lib.ListN.{length, length-append}
+use lib.ListN.{length}
 use borrow.Author.Tests.{le-leb, lt-ltb}
 use Rattle.rules.specs.declared.answers.Ended.{Ended}
 use Rattle.rules.specs.declared.answers.Ended.the-variants.{AllWorked, NoRoom, BeforeRefused}

@@ -1,5 +1,4 @@
 // What two files and the seconds asked come to: "station first", then the samples; the seconds asked "after the files".
-ghost use mathlib.Core.Path.{_≡_};
 ghost use mathlib.Core.List.{[]};
 ghost use Prim.Native.Nat.{_≤_};
 ghost use Rattle.rules.specs.Answers.{numberAndPlace, valueOr};

@@ -5,12 +5,12 @@ use native.Mathlib.Omega.{arith}
 use Rattle.rules.specs.declared.answers.Refusal.{Refusal}
 use Rattle.rules.specs.declared.answers.Verdict.{Verdict}
 use Rattle.rules.specs.declared.station.Station.{Station}
-use Rattle.rules.specs.Answers.{Answer, accepted, refused, numberAndPlace, verdictOf, refusalOf}
+use Rattle.rules.specs.Answers.{Answer, accepted, refused, numberAndPlace, refusalOf}
 use Rattle.samples.specs.declared.check.Span.{Span}
 use Rattle.course.specs.declared.begin.Begun.{Begun}
 use Rattle.course.specs.Begin as course
 use Rattle.simulation.specs.declared.state.Phase.{Phase}
-use Rattle.simulation.specs.Begin.{Refuses, Starting, BegunAs}
+use Rattle.simulation.specs.Begin.{Refuses, BegunAs}
 
 module _ (b : Begun) where
   -- a refusal in the paper's numbers

@@ -3,7 +3,7 @@
 -- All that is known of a call is what the function's own contract ensures. Assumes nothing but what the hypotheses say: both passes
 -- over the sample file read the same bytes, fewer than 2^64.
 use Prim.Native.Nat.{ℕ, _≤_}
-use mathlib.Core.Path.{_≡_, refl, sym, ap, _∙_, subst}
+use mathlib.Core.Path.{_≡_, sym, ap, _∙_, subst}
 use mathlib.Core.Bool.{Bool}
 use mathlib.Core.List.{List, [], _++_}
 use lib.ListN.{length}
@@ -23,7 +23,7 @@ use Rattle.intake.proofs.StationChunks as stations
 use Rattle.samples.specs.declared.check.Span.{Span}
 use Rattle.samples.specs.declared.check.SampleCheck.{SampleCheck}
 use Rattle.samples.specs.declared.check.Checked.{Checked}
-use Rattle.samples.specs.ToCome.{mostPlace, placed}
+use Rattle.samples.specs.ToCome.{mostPlace}
 use Rattle.samples.specs.Streamed.{sheetSpan, checkedOf}
 use Rattle.samples.specs.Chunks.{joined, Feeds}
 use Rattle.samples.proofs.CheckLaws.{span-place}

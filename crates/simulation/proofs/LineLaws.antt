@@ -1,8 +1,8 @@
 -- A line that is put into the tail of a lent buffer. Assumes nothing.
-use Prim.Native.Nat.{ℕ, _+_, _-_, _≤_, _<_}
+use Prim.Native.Nat.{ℕ, _+_, _-_, _≤_}
 use mathlib.Core.Path.{_≡_, refl, sym, ap, _∙_}
-use mathlib.Core.Bool.{Bool, true, false}
-use mathlib.Core.List.{List, [], _∷_, _++_, append-nil}
+use mathlib.Core.Bool.{true, false}
+use mathlib.Core.List.{List, _++_, append-nil}
 use native.Mathlib.Omega.{arith}
 use lib.Dec.{leb}
 use lib.ListN.{length, take, drop, length-append, length-drop, drop-of-length-le, take-append-drop}
@@ -14,7 +14,7 @@ use Rattle.rows.proofs.Room.{put-means, none-means}
 use Rattle.simulation.specs.declared.state.Turn.{Turn}
 use Rattle.simulation.specs.declared.state.Wants.{Wants}
 use Rattle.simulation.specs.Text.{lineOf}
-use Rattle.simulation.specs.Turns.{LineBy, LineMoved, withLine, waitingFor, putAt}
+use Rattle.simulation.specs.Turns.{LineMoved, withLine, waitingFor}
 
 -- ---- the tail of a buffer that was lent, and the buffer when it has come back
 

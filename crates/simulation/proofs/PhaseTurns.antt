@@ -6,15 +6,15 @@ use mathlib.Core.List.{List, [], _∷_, _++_, append-nil, append-assoc}
 use native.Mathlib.Omega.{arith}
 use native.Mathlib.Nat.{not-suc-le-zero}
 use lib.Dec.{leb, ltb}
-use lib.ListN.{length, take, drop, getD, length-append, length-take, drop-of-length-le}
-use borrow.Author.Tests.{leb-true, leb-false, ltb-true, ltb-false, lt-ltb}
+use lib.ListN.{length, take, drop, getD, length-take, drop-of-length-le}
+use borrow.Author.Tests.{leb-true, leb-false, lt-ltb}
 use Rattle.rules.specs.declared.answers.Refusal.{Refusal}
 use Rattle.rules.specs.declared.run.Inputs.{Inputs}
 use Rattle.rules.specs.declared.run.SetState.{SetState}
 use Rattle.rules.specs.declared.run.Mode.the-variants.{Off}
 use Rattle.rules.specs.Numbers.{if_then_else_}
 use Rattle.rules.specs.Modes.{fresh, stateAt}
-use Rattle.rules.specs.Row.{setHeading, setLines}
+use Rattle.rules.specs.Row.{setLines}
 use Rattle.rows.specs.SetLine.{setLine}
 use Rattle.rows.proofs.SetLine.{set-lines-step}
 use Rattle.simulation.specs.declared.state.Phase.{Phase}
@@ -23,7 +23,7 @@ use Rattle.simulation.specs.declared.state.Turn.{Turn}
 use Rattle.simulation.specs.declared.state.Wants.{Wants}
 use Rattle.simulation.specs.Rows.{setTexts}
 use Rattle.simulation.specs.Text.{textOf, toPrint, lineOf, phaseAfter, setLineAt, withPhase}
-use Rattle.simulation.specs.Turns.{NoMore, ComesIn, Comes, rank, weight, finished, Moved, LineBy, LineMoved, withLine, waitingFor, putAt}
+use Rattle.simulation.specs.Turns.{ComesIn, Comes, rank, weight, finished, Moved, LineBy, LineMoved, withLine, waitingFor, putAt}
 use Rattle.simulation.proofs.TurnLaws.{put-front, put-rest, put-size, quiet}
 
 -- ---- a line, and then the phase after it

@@ -1,9 +1,9 @@
 -- A turn of some seconds: the text of their rows stands in the buffer, and the inputs still to come are those that the sample file gives.
 -- Assumes nothing.
-use Prim.Native.Nat.{ℕ, _+_, _-_, _*_, _/_, _≤_, _<_, min}
+use Prim.Native.Nat.{ℕ, _+_, _-_, _*_, _/_, _≤_, _<_}
 use mathlib.Core.Path.{_≡_, refl, sym, ap, _∙_, subst}
-use mathlib.Core.Bool.{Bool, true, false}
-use mathlib.Core.List.{List, [], _∷_, _++_, append-nil, append-assoc}
+use mathlib.Core.Bool.{Bool, true}
+use mathlib.Core.List.{List, [], _∷_, _++_, append-assoc}
 use native.Mathlib.Omega.{arith}
 use native.Mathlib.Decide.{decLt}
 use lib.ListN.{length, take, drop, length-append, length-drop}
@@ -22,11 +22,10 @@ use Rattle.rows.specs.declared.put_rows.RowsPut.{RowsPut}
 use Rattle.rows.specs.RowLines as lines
 use Rattle.rows.specs.RowLines.{LinesPut}
 use Rattle.rows.proofs.RowLines.{numbers-length, all-put}
-use Rattle.samples.specs.Held.{heldFrom}
 use Rattle.course.specs.declared.state.Course.{Course}
 use Rattle.course.specs.declared.state.Halt.{Halt}
 use Rattle.course.specs.declared.state.Moved as moves
-use Rattle.course.specs.Rows.{rowsOf, runAfter, AllRuled}
+use Rattle.course.specs.Rows.{rowsOf, AllRuled}
 use Rattle.course.specs.Coming as coming
 use Rattle.course.specs.Coming.{Coming}
 use Rattle.course.specs.Moves.{HaltedFor, Moves}
@@ -38,7 +37,7 @@ use Rattle.simulation.specs.declared.state.Turn.{Turn}
 use Rattle.simulation.specs.declared.state.Wants.{Wants}
 use Rattle.simulation.specs.Rows.{rowTexts, rowsWith}
 use Rattle.simulation.specs.Text.{textOf, toPrint, withPhase}
-use Rattle.simulation.specs.Turns.{ComesIn, Comes, ComesOn, rank, weight, Ended, Moved, phaseFor, wantsFor, withRows, waitingFor, putAt, SomeAsked}
+use Rattle.simulation.specs.Turns.{ComesIn, Comes, rank, weight, Ended, Moved, phaseFor, wantsFor, withRows, waitingFor, putAt, SomeAsked}
 use Rattle.simulation.proofs.LineLaws.{back-is}
 use Rattle.simulation.proofs.TurnLaws.{put-front, put-rest, put-size, with-split, with-none, quiet}
 

@@ -1,10 +1,10 @@
 -- A turn leaves what was handed over and what is still to come as it was: a phase's line, the seconds, the waits. Assumes nothing.
-use Prim.Native.Nat.{ℕ, zero, suc, _+_, _-_, _*_, _≤_, _<_, min}
+use Prim.Native.Nat.{ℕ, _+_, _-_, _≤_, min}
 use mathlib.Core.Path.{_≡_, refl, sym, ap, _∙_}
-use mathlib.Core.Bool.{Bool, true, false}
-use mathlib.Core.List.{List, [], _∷_, _++_, append-nil, append-assoc}
+use mathlib.Core.Bool.{Bool, true}
+use mathlib.Core.List.{List, [], _∷_, _++_, append-assoc}
 use native.Mathlib.Omega.{arith}
-use lib.ListN.{length, take, drop, length-append, length-take, length-drop, take-append-drop}
+use lib.ListN.{length, take, drop, length-append, length-take, length-drop}
 use lib.Seq.{take-at, drop-at, drop-drop}
 use Rattle.rules.specs.declared.station.Station.{Station}
 use Rattle.rules.specs.declared.run.Inputs.{Inputs}
@@ -13,15 +13,13 @@ use Rattle.rules.specs.declared.run.Row.{Row}
 use Rattle.rules.specs.Row.{rowText}
 use Rattle.rows.specs.RowLines as lines
 use Rattle.course.specs.Rows.{rowsOf, runAfter}
-use Rattle.course.specs.Coming.{Coming}
 use Rattle.course.proofs.RowLaws.{rows-split, run-split}
-use Rattle.simulation.specs.declared.state.Phase.{Phase}
 use Rattle.simulation.specs.declared.state.Simulation.{Simulation}
 use Rattle.simulation.specs.declared.state.Turn.{Turn}
 use Rattle.simulation.specs.declared.state.Wants.{Wants}
 use Rattle.simulation.specs.Rows.{rowTexts, setTexts, rowsWith}
-use Rattle.simulation.specs.Text.{textOf, toPrint, withPhase}
-use Rattle.simulation.specs.Turns.{Comes, ComesOn, rank, weight, finished, Ended, Moved, waitingFor, putAt}
+use Rattle.simulation.specs.Text.{textOf, toPrint}
+use Rattle.simulation.specs.Turns.{Comes, weight, Ended, Moved, putAt}
 
 -- ---- a text in a buffer
 

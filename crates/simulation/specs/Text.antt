@@ -1,8 +1,7 @@
 -- Document 01, what the run program prints, by what is still to come: the text that a run in a phase has yet to hand over.
-use Prim.Native.Nat.{ℕ, suc, _+_, _-_, min}
-use mathlib.Core.Bool.{Bool, true, false}
-use mathlib.Core.List.{List, [], _∷_, _++_}
-use lib.ListN.{length, take, drop}
+use Prim.Native.Nat.{ℕ, suc, _+_, min}
+use mathlib.Core.List.{List, [], _++_}
+use lib.ListN.{take, drop}
 use lib.Dec.{ltb}
 use Rattle.rules.specs.declared.answers.Refusal.{Refusal}
 use Rattle.rules.specs.declared.station.Station.{Station}

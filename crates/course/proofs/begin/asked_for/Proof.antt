@@ -9,11 +9,6 @@ use Rattle.course.proofs.BeginLaws.{asked-most, asked-refused}
 use borrow.Author.Needs.{needs}
 use Rattle.course.proofs.begin.asked_for.Statement.{statement}
 use Rattle.course.proofs.begin.asked_for.Tie as tie
-use Rattle.course.proofs.begin.asked_for.Reads as reads
-use Rattle.course.proofs.begin.asked_for.Lts as lts
-use Rattle.intake.proofs.asked.seconds_asked.Reads as seconds-asked-reads
-use Rattle.course.proofs.begin.refused.Reads as refused-reads
-use Rattle.course.proofs.begin.starting.Reads as starting-reads
 
 -- src/begin.rt:59:9
 seconds-asked-requires : tie.Need-seconds-asked-requires

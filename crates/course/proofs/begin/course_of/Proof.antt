@@ -9,11 +9,6 @@ use Rattle.course.proofs.BeginLaws.{station-refused, samples-refused, a
 use borrow.Author.Needs.{needs}
 use Rattle.course.proofs.begin.course_of.Statement.{statement}
 use Rattle.course.proofs.begin.course_of.Tie as tie
-use Rattle.course.proofs.begin.course_of.Reads as reads
-use Rattle.course.proofs.begin.course_of.Lts as lts
-use Rattle.intake.proofs.station_bytes.station_of.Reads as station-of-reads
-use Rattle.course.proofs.begin.asked_for.Reads as asked-for-reads
-use Rattle.course.proofs.begin.refused.Reads as refused-reads
 
 -- src/begin.rt:70:9
 station-of-requires : tie.Need-station-of-requires

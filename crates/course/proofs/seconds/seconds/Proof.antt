@@ -1,7 +1,5 @@
 use Rattle.course.proofs.seconds.seconds.Statement.{statement}
 use Rattle.course.proofs.seconds.seconds.Tie as tie
-use Rattle.course.proofs.seconds.seconds.Reads as reads
-use Rattle.course.proofs.seconds.seconds.Lts as lts
 
 -- src/seconds.rt:9:1
 returns : tie.Need-returns

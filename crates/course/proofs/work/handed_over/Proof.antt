@@ -1,14 +1,11 @@
 -- `handed_over` meets its contract: second after second. Assumes nothing.
 use Prim.Native.Nat.{_-_}
-use mathlib.Core.Path.{refl}
 use native.Mathlib.Omega.{arith}
 use lib.ListN.{length-set}
 use borrow.Author.Needs.{needs}
 use Rattle.course.proofs.HandedOver.{Handing, handing-start, handing-more, handing-over}
 use Rattle.course.proofs.work.handed_over.Statement.{statement}
 use Rattle.course.proofs.work.handed_over.Tie as tie
-use Rattle.course.proofs.work.handed_over.Reads as reads
-use Rattle.course.proofs.work.handed_over.Lts as lts
 
 abbrev Inv-loop : tie.InvT-loop
 Inv-loop count loads solars sheddables inputs₀ i₀ inputs i = Handing loads solars sheddables count inputs₀ inputs i

@@ -5,11 +5,6 @@ use Rattle.course.proofs.MoveLaws.{seconds-moved, no-seconds-moved}
 use borrow.Author.Needs.{needs}
 use Rattle.course.proofs.work.some_seconds.Statement.{statement}
 use Rattle.course.proofs.work.some_seconds.Tie as tie
-use Rattle.course.proofs.work.some_seconds.Reads as reads
-use Rattle.course.proofs.work.some_seconds.Lts as lts
-use Rattle.course.proofs.work.with_inputs.Reads as with-inputs-reads
-use Rattle.course.proofs.work.without_inputs.Reads as without-inputs-reads
-use Rattle.samples.proofs.inputs.fill.Reads as fill-reads
 
 -- src/work.rt:170:9
 fill-requires : tie.Need-fill-requires

@@ -8,12 +8,6 @@ use Rattle.course.proofs.MoveLaws.{seconds-move, worked-few}
 use borrow.Author.Needs.{needs}
 use Rattle.course.proofs.work.with_inputs.Statement.{statement}
 use Rattle.course.proofs.work.with_inputs.Tie as tie
-use Rattle.course.proofs.work.with_inputs.Reads as reads
-use Rattle.course.proofs.work.with_inputs.Lts as lts
-use Rattle.course.proofs.seconds.seconds.Reads as seconds-reads
-use Rattle.course.proofs.work.fewer.Reads as fewer-reads
-use Rattle.course.proofs.work.halt_for.Reads as halt-for-reads
-use Rattle.course.proofs.work.handed_over.Reads as handed-over-reads
 
 -- src/work.rt:134:65
 slice-aggregate-handed-over : tie.Need-slice-aggregate-handed-over

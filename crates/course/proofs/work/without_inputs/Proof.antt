@@ -4,12 +4,6 @@ use Rattle.course.proofs.MoveLaws.{no-inputs-broken, no-inputs-ended, n
 use borrow.Author.Needs.{needs}
 use Rattle.course.proofs.work.without_inputs.Statement.{statement}
 use Rattle.course.proofs.work.without_inputs.Tie as tie
-use Rattle.course.proofs.work.without_inputs.Reads as reads
-use Rattle.course.proofs.work.without_inputs.Lts as lts
-use Rattle.course.proofs.work.waiting.Reads as waiting-reads
-use Rattle.course.proofs.work.with_source.Reads as with-source-reads
-use Rattle.samples.proofs.inputs.end_inputs.Reads as end-inputs-reads
-use Rattle.samples.proofs.inputs.has_ended.Reads as has-ended-reads
 
 -- src/work.rt:67:9
 end-inputs-requires : tie.Need-end-inputs-requires

@@ -6,12 +6,6 @@ use Rattle.course.proofs.MoveLaws.{none-left, no-room}
 use borrow.Author.Needs.{needs}
 use Rattle.course.proofs.work.work.Statement.{statement}
 use Rattle.course.proofs.work.work.Tie as tie
-use Rattle.course.proofs.work.work.Reads as reads
-use Rattle.course.proofs.work.work.Lts as lts
-use Rattle.course.proofs.work.batch.Reads as batch-reads
-use Rattle.words.proofs.arithmetic.lesser.Reads as lesser-reads
-use Rattle.course.proofs.work.some_seconds.Reads as some-seconds-reads
-use Rattle.course.proofs.work.waiting.Reads as waiting-reads
 
 -- src/work.rt:185:9
 lesser-requires : tie.Need-lesser-requires

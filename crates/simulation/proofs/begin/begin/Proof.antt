@@ -8,9 +8,6 @@ use Rattle.simulation.proofs.BeginLaws.{begun-accepted, begun-refused}
 use borrow.Author.Needs.{needs}
 use Rattle.simulation.proofs.begin.begin.Statement.{statement}
 use Rattle.simulation.proofs.begin.begin.Tie as tie
-use Rattle.simulation.proofs.begin.begin.Reads as reads
-use Rattle.simulation.proofs.begin.begin.Lts as lts
-use Rattle.course.proofs.begin.course_of.Reads as course-of-reads
 
 -- src/begin.rt:18:9
 course-of-requires : tie.Need-course-of-requires

@@ -1,5 +1,4 @@
 -- `line_turn` meets its contract: the line of the phase stands in the buffer where it has room. Assumes nothing.
-use Prim.Native.Nat.{_+_}
 use mathlib.Core.Path.{_≡_, ap, _∙_}
 use native.Mathlib.Omega.{arith}
 use denote.Ref.{now}

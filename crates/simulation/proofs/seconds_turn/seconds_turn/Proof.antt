@@ -7,14 +7,6 @@ use Rattle.simulation.proofs.RowsTurn.{none-left-turn, no-room-turn}
 use borrow.Author.Needs.{needs}
 use Rattle.simulation.proofs.seconds_turn.seconds_turn.Statement.{statement}
 use Rattle.simulation.proofs.seconds_turn.seconds_turn.Tie as tie
-use Rattle.simulation.proofs.seconds_turn.seconds_turn.Reads as reads
-use Rattle.simulation.proofs.seconds_turn.seconds_turn.Lts as lts
-use Rattle.course.proofs.state.seconds_to_work.Reads as seconds-to-work-reads
-use Rattle.simulation.proofs.line_turn.waiting.Reads as waiting-reads
-use Rattle.simulation.proofs.line_turn.with_phase.Reads as with-phase-reads
-use Rattle.simulation.proofs.seconds_turn.batch.Reads as batch-reads
-use Rattle.simulation.proofs.seconds_turn.least_room.Reads as least-room-reads
-use Rattle.simulation.proofs.seconds_turn.some_rows.Reads as some-rows-reads
 
 -- src/seconds_turn.rt:106:9
 seconds-to-work-requires : tie.Need-seconds-to-work-requires

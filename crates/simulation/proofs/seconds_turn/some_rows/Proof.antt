@@ -1,12 +1,10 @@
 -- `some_rows` meets its contract: the text of the rows of the seconds worked stands in the buffer. Assumes nothing.
 use Prim.Native.Nat.{_*_, _≤_}
-use mathlib.Core.Path.{_≡_}
 use native.Mathlib.Omega.{arith}
 use denote.Ref.{now}
 use lib.ListN.{length, take, drop, length-map, length-take}
 use Rattle.rules.proofs.Shapes.{Tables}
 use Rattle.rows.specs.RowLines.{LinesPut}
-use Rattle.course.specs.Moves.{Moves}
 use Rattle.simulation.proofs.LineLaws.{rest-is}
 use Rattle.simulation.proofs.RowsTurn.{numbers-fit, rows-room, rows-turn}
 use borrow.Author.Needs.{needs}
