@@ -4,3 +4,9 @@ pub mod Fits
 pub mod StepsTaken
 pub mod Ready
 pub mod Ruled
+pub mod Owed
+pub mod Each
+pub mod Came
+pub mod Admitting
+pub mod Working
+pub mod AskNothing

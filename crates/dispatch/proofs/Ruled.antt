@@ -15,7 +15,9 @@ use Rattle.rules.specs.declared.run.Mode.the-variants.{Off, Warming, On, Coolin
 use Rattle.rules.specs.declared.run.SetState.{SetState}
 use Rattle.rules.specs.declared.run.Totals.{Totals}
 use Rattle.rules.specs.declared.run.Inputs.{Inputs}
+use Rattle.rules.specs.declared.run.Row.{Row}
 use Rattle.rules.specs.declared.run.Run.{Run}
+use Rattle.rules.specs.declared.run.Step.{Step}
 use Rattle.rules.specs.declared.run.Watts.{Watts}
 use Rattle.rules.specs.Numbers.{if_then_else_, has, tab}
 use Rattle.rules.specs.StationRecord.{setAt, setRight, pairsRight}
@@ -125,6 +127,9 @@ plus-small t w a b =
 
 -- ---- the whole second
 
+abbrev pub stepOf : Run → Row → Step
+stepOf run row = record { run = run; row = row }
+
 module _ (st : Station) (tables : Tables st) (caps : List ℕ) (rated : Rated (st .sets) (st .configs) caps) (r : Run) (sixty : length (r .decided) ≡ 60) (x : Inputs) (h : Admitted st r x) where
   abbrev w : Watts
   w = wattsNow st r x
@@ -207,3 +212,8 @@ module _ (st : Station) (tables : Tables st) (caps : List ℕ) (rated : Rated (s
   pub row-ruled : rowIn st caps r x (wattsIn st r x) ≡ step st r x .row
   unfolding rowIn step rowAfter
   row-ruled = rw (watts-ruled, call-ruled)
+
+  -- the parts after the steps are those of the definition
+  pub stepped-is : (s : Stepped) (amounts : List ℕ) → SteppedBy st caps r x s amounts → stepOf (runOf (s .moment) (s .states) amounts) (s .row) ≡ step st r x
+  stepped-is s amounts k =
+      ap (λ (z : Run). stepOf z (s .row)) (k .after ∙ record-ruled) ∙ ap (stepOf (step st r x .run)) (k .row ∙ row-ruled)

@@ -3,3 +3,4 @@ pub mod Sized
 pub mod InType
 pub mod Parts
 pub mod Steps
+pub mod Working

@@ -1,6 +1,10 @@
-// One second of a run, and many seconds on one judgement.
+// One second of a run, its eleven steps, and many seconds on one judgement.
+pub mod admit;
 mod commands;
 mod counts;
+pub mod inputs;
 pub mod parts;
+pub mod second;
+pub mod seconds;
 pub mod step;
 mod totals;

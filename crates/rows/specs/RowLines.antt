@@ -1,12 +1,18 @@
 -- Rows of thirteen numbers, in the heading's order, as lines; and what such rows that are put into a buffer owe.
 use Prim.Native.Nat.{ℕ, zero, suc, _+_, _*_, _≤_, _<_}
 use mathlib.Core.List.{List, [], _∷_, _++_}
+use lib.Dec.{leb}
 use lib.ListN.{length, take, drop}
 use Rattle.rules.specs.declared.run.Row.{Row}
 use Rattle.rules.specs.Bytes.{commaLine}
-use Rattle.rules.specs.Row.{rowText}
+use Rattle.rules.specs.Numbers.{if_then_else_}
+use Rattle.rules.specs.Row.{columns, rowText}
 use Rattle.rows.specs.Written.{Front}
 use Rattle.rows.specs.declared.put_rows.RowsPut.{RowsPut}
+
+-- a row's numbers before those of lent rows that have a place for it
+unfoldable pub rowFirst : Row → List ℕ → List ℕ
+rowFirst r lent = if leb 13 (length lent) then columns r ++ drop 13 lent else lent
 
 -- the rows' bytes
 unfoldable pub textOf : List Row → List ℕ

@@ -2,5 +2,6 @@
 mod decimal;
 pub mod put_rows;
 pub mod row;
+pub mod row_numbers;
 pub mod run_lines;
 mod text;
