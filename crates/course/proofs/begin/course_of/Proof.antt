@@ -10,45 +10,36 @@ use borrow.Author.Needs.{needs}
 use Rattle.course.proofs.begin.course_of.Statement.{statement}
 use Rattle.course.proofs.begin.course_of.Tie as tie
 
--- src/begin.rt:70:9
 station-of-requires : tie.Need-station-of-requires
 station-of-requires c κs = search needs
 
--- src/begin.rt:73:29
 enum-known-verdict : tie.Need-enum-known-verdict
 enum-known-verdict c = search needs
 
--- src/begin.rt:74:9
 refused-requires : tie.Need-refused-requires
 refused-requires c κs = search needs
 
--- src/begin.rt:74:9
 returns : tie.Need-returns
 returns c = station-refused (c .refused .result) (stationWith (c .before .before .before .before .before .before .before .args .file) []) (checkedOf (c .before .before .before .before .before .before .before .args .checked)) (secondsAsked (now (c .before .before .before .before .before .before .before .args .asked))) (c .before .before .verdict .given .0 .0) (rw (c .before .before .verdict .given .1) at (c .before .before .before .before .before .station-of .ensures .0)) (c .refused .ensures)
 
 enum-told : tie.Need-enum-told
 enum-told c = search needs
 
--- src/begin.rt:76:29
 enum-known-checked : tie.Need-enum-known-checked
 enum-known-checked c = search needs
 
--- src/begin.rt:77:9
 refused-requires-2 : tie.Need-refused-requires-2
 refused-requires-2 c κs = search needs
 
--- src/begin.rt:77:9
 returns-2 : tie.Need-returns-2
 returns-2 c = samples-refused (c .refused2 .result) (stationWith (c .before .before .before .before .before .before .before .before .before .args .file) []) (checkedOf (c .before .before .before .before .before .before .before .before .before .args .checked)) (secondsAsked (now (c .before .before .before .before .before .before .before .before .before .args .asked))) (c .before .before .checked .given .0 .0) (rw (c .before .before .before .before .enum-told .given .1) at (c .before .before .before .before .before .before .before .station-of .ensures .0)) (ap checkedOf (c .before .before .checked .given .1)) (c .refused2 .ensures)
 
 enum-told-2 : tie.Need-enum-told-2
 enum-told-2 c = search needs
 
--- src/begin.rt:79:5
 asked-for-requires : tie.Need-asked-for-requires
 asked-for-requires c κs = search needs
 
--- src/begin.rt:67:1
 returns-3 : tie.Need-returns-3
 returns-3 c = all-accepted (c .asked-for .result) (stationWith (c .before .before .before .before .before .before .before .before .args .file) []) (checkedOf (c .before .before .before .before .before .before .before .before .args .checked)) (secondsAsked (now (c .before .before .before .before .before .before .before .before .args .asked))) (c .before .before .before .before .before .before .station-of .result .station) _ (rw (c .before .before .before .enum-told .given .1) at (c .before .before .before .before .before .before .station-of .ensures .0)) (c .before .before .before .before .before .before .station-of .ensures .1) (ap checkedOf (c .before .enum-told2 .given .1)) (c .asked-for .ensures)
 

@@ -13,91 +13,69 @@ Inv-loop count loads solars sheddables inputs₀ i₀ inputs i = Handing loads s
 abbrev μ-loop : tie.MeasureT-loop
 μ-loop count loads solars sheddables inputs₀ i₀ inputs i = count - i
 
--- src/work.rt:109:5
 loop-holds : tie.Need-loop-holds Inv-loop μ-loop
 loop-holds c = handing-start _ _ _ _ _
 
--- src/work.rt:110:18
 mul-at : tie.Need-mul-at Inv-loop μ-loop
 mul-at c = search needs
 
--- src/work.rt:111:22
 mul-inputs : tie.Need-mul-inputs Inv-loop μ-loop
 mul-inputs c = search needs
 
--- src/work.rt:111:22
 shared-slice-read-inputs : tie.Need-shared-slice-read-inputs Inv-loop μ-loop
 shared-slice-read-inputs c = search needs
 
--- src/work.rt:111:9
 mul-inputs-2 : tie.Need-mul-inputs-2 Inv-loop μ-loop
 mul-inputs-2 c = search needs
 
--- src/work.rt:111:9
 slice-write-inputs : tie.Need-slice-write-inputs Inv-loop μ-loop
 slice-write-inputs c = search needs
 
--- src/work.rt:112:26
 mul-inputs-3 : tie.Need-mul-inputs-3 Inv-loop μ-loop
 mul-inputs-3 c = search needs
 
--- src/work.rt:112:26
 shared-slice-read-inputs-2 : tie.Need-shared-slice-read-inputs-2 Inv-loop μ-loop
 shared-slice-read-inputs-2 c = search needs
 
--- src/work.rt:112:16
 add-inputs : tie.Need-add-inputs Inv-loop μ-loop
 add-inputs c = search needs
 
--- src/work.rt:112:9
 mul-inputs-4 : tie.Need-mul-inputs-4 Inv-loop μ-loop
 mul-inputs-4 c = search needs
 
--- src/work.rt:112:9
 slice-write-inputs-2 : tie.Need-slice-write-inputs-2 Inv-loop μ-loop
 slice-write-inputs-2 c = simp length-set (omega (arith, c .before .before .before .loop .inv .size, c .before .before .loop-test .taken, c .before .before .before .before .pre .3))
 
--- src/work.rt:113:26
 mul-inputs-5 : tie.Need-mul-inputs-5 Inv-loop μ-loop
 mul-inputs-5 c = search needs
 
--- src/work.rt:113:26
 shared-slice-read-inputs-3 : tie.Need-shared-slice-read-inputs-3 Inv-loop μ-loop
 shared-slice-read-inputs-3 c = search needs
 
--- src/work.rt:113:16
 add-inputs-2 : tie.Need-add-inputs-2 Inv-loop μ-loop
 add-inputs-2 c = search needs
 
--- src/work.rt:113:9
 mul-inputs-6 : tie.Need-mul-inputs-6 Inv-loop μ-loop
 mul-inputs-6 c = search needs
 
--- src/work.rt:113:9
 slice-write-inputs-3 : tie.Need-slice-write-inputs-3 Inv-loop μ-loop
 slice-write-inputs-3 c = simp length-set (omega (arith, c .before .before .before .before .loop .inv .size, c .before .before .before .loop-test .taken, c .before .before .before .before .before .pre .3))
 
--- src/work.rt:114:9
 add-i : tie.Need-add-i Inv-loop μ-loop
 add-i c = search needs
 
--- src/work.rt:109:5
 loop-less : tie.Need-loop-less Inv-loop μ-loop
 loop-less c = search needs
 
--- src/work.rt:109:5
 loop-again : tie.Need-loop-again Inv-loop μ-loop
 loop-again c = handing-more _ _ _ _ _ _ _ (c .before .before .before .before .loop .inv) (c .before .before .before .loop-test .taken) (c .before .before .before .before .before .pre .0) (c .before .before .before .before .before .pre .1) (c .before .before .before .before .before .pre .2) (c .before .before .before .before .before .pre .3)
 
--- src/work.rt:116:5
 mul-result : tie.Need-mul-result Inv-loop μ-loop
 mul-result c = search needs
 
--- src/work.rt:98:1
 same-length : tie.Need-same-length Inv-loop μ-loop
 same-length c = c .before .loop .inv .size
 
--- src/work.rt:98:1
 returns : tie.Need-returns Inv-loop μ-loop
 returns c = handing-over _ _ _ _ _ _ _ (c .before .loop .inv) (omega (arith, c .loop-test .left))
 

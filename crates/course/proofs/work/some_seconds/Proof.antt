@@ -6,51 +6,39 @@ use borrow.Author.Needs.{needs}
 use Rattle.course.proofs.work.some_seconds.Statement.{statement}
 use Rattle.course.proofs.work.some_seconds.Tie as tie
 
--- src/work.rt:170:9
 fill-requires : tie.Need-fill-requires
 fill-requires c κs = search needs
 
--- src/work.rt:175:9
 without-inputs-requires : tie.Need-without-inputs-requires
 without-inputs-requires c κs = search needs
 
--- src/work.rt:175:9
 same-length : tie.Need-same-length
 same-length c = search needs
 
--- src/work.rt:175:9
 same-length-2 : tie.Need-same-length-2
 same-length-2 c = search needs
 
--- src/work.rt:175:9
 same-length-3 : tie.Need-same-length-3
 same-length-3 c = search needs
 
--- src/work.rt:175:9
 returns : tie.Need-returns
 returns c = no-seconds-moved (c .before .before .before .before .before .before .before .before .before .before .before .before .before .before .before .before .before .before .before .before .args .course) (now (c .before .before .before .before .before .before .before .before .before .before .before .before .before .before .before .before .before .before .before .before .args .chunk)) (c .before .before .before .before .before .before .before .before .before .before .before .before .before .before .before .before .before .before .before .before .args .at) (c .before .before .before .before .before .before .before .before .before .before .before .before .before .before .before .before .before .before .before .before .args .ended) (now (c .before .before .before .before .before .before .before .before .before .before .before .before .before .before .before .before .before .before .before .before .args .rows)) _ _ _ _ _ _ _ (c .before .before .before .before .before .before .before .before .before .fill .ensures) (c .before .before .before .before .before .before .before .before .before .before .before .before .before .before .before .before .before .before .before .before .pre .some) (c .before .if1 .taken) _ (c .without-inputs .ensures)
 
--- src/work.rt:177:5
 with-inputs-requires : tie.Need-with-inputs-requires
 with-inputs-requires c κs = search needs
 
--- src/work.rt:155:1
 same-length-4 : tie.Need-same-length-4
 same-length-4 c = search needs
 
--- src/work.rt:155:1
 same-length-5 : tie.Need-same-length-5
 same-length-5 c = search needs
 
--- src/work.rt:155:1
 same-length-6 : tie.Need-same-length-6
 same-length-6 c = search needs
 
--- src/work.rt:155:1
 same-length-7 : tie.Need-same-length-7
 same-length-7 c = search needs
 
--- src/work.rt:155:1
 returns-2 : tie.Need-returns-2
 returns-2 c = seconds-moved (c .before .before .before .before .before .before .before .before .before .before .before .before .before .before .before .before .before .before .before .before .before .before .before .before .before .before .args .course) (now (c .before .before .before .before .before .before .before .before .before .before .before .before .before .before .before .before .before .before .before .before .before .before .before .before .before .before .args .chunk)) (c .before .before .before .before .before .before .before .before .before .before .before .before .before .before .before .before .before .before .before .before .before .before .before .before .before .before .args .at) (c .before .before .before .before .before .before .before .before .before .before .before .before .before .before .before .before .before .before .before .before .before .before .before .before .before .before .args .ended) (now (c .before .before .before .before .before .before .before .before .before .before .before .before .before .before .before .before .before .before .before .before .before .before .before .before .before .before .args .rows)) _ _ _ _ _ _ _ (c .before .before .before .before .before .before .before .before .before .before .before .before .before .before .before .fill .ensures) (c .before .before .before .before .before .before .before .before .before .before .before .before .before .before .before .before .before .before .before .before .before .before .before .before .before .before .pre .want-left) (c .before .before .before .before .before .before .before .before .before .before .before .before .before .before .before .before .before .before .before .before .before .before .before .before .before .before .pre .want-room) (omega (arith, c .before .before .before .before .before .before .before .if1 .left)) _ _ (c .before .before .with-inputs .ensures)
 

@@ -9,39 +9,30 @@ use borrow.Author.Needs.{needs}
 use Rattle.course.proofs.work.with_inputs.Statement.{statement}
 use Rattle.course.proofs.work.with_inputs.Tie as tie
 
--- src/work.rt:134:65
 slice-aggregate-handed-over : tie.Need-slice-aggregate-handed-over
 slice-aggregate-handed-over c = search needs
 
--- src/work.rt:134:9
 handed-over-requires : tie.Need-handed-over-requires
 handed-over-requires c κs = search needs
 
--- src/work.rt:137:40
 array-share-prefix-inputs : tie.Need-array-share-prefix-inputs
 array-share-prefix-inputs c = search needs
 
--- src/work.rt:137:40
 slice-aggregate-seconds : tie.Need-slice-aggregate-seconds
 slice-aggregate-seconds c = simp length-take (omega (arith, c .before .before .before .before .handed-over .ensures .0, c .before .before .before .before .handed-over .kept .1 .1 .1 .1 .0, c .before .before .before .before .before .before .before .before .before .before .pre .0))
 
--- src/work.rt:137:9
 seconds-requires : tie.Need-seconds-requires
 seconds-requires c κs = search needs
 
--- src/work.rt:140:9
 fewer-requires : tie.Need-fewer-requires
 fewer-requires c κs = omega (arith, worked-few (c .before .before .before .before .before .before .before .before .before .before .before .before .before .before .before .args .course) _ _ _ _ _ (in-three _ _ _ _ (c .before .before .before .before .before .before .before .before .before .handed-over .ensures .0) (c .before .before .before .before .before .before .before .before .before .handed-over .ensures .1)) (c .before .before .before .seconds .ensures), in-length (c .before .before .before .before .before .before .before .before .before .before .before .before .before .before .before .args .count) (now (c .before .before .before .before .before .before .before .before .before .before .before .before .before .before .before .args .loads)) (now (c .before .before .before .before .before .before .before .before .before .before .before .before .before .before .before .args .solars)) (now (c .before .before .before .before .before .before .before .before .before .before .before .before .before .before .before .args .sheddables)) (c .before .before .before .before .before .before .before .before .before .before .before .before .before .before .before .pre .2) (c .before .before .before .before .before .before .before .before .before .before .before .before .before .before .before .pre .3) (c .before .before .before .before .before .before .before .before .before .before .before .before .before .before .before .pre .4), c .before .before .before .before .before .before .before .before .before .before .before .before .before .before .before .pre .1)
 
--- src/work.rt:150:15
 halt-for-requires : tie.Need-halt-for-requires
 halt-for-requires c κs = search needs
 
--- src/work.rt:120:1
 same-length : tie.Need-same-length
 same-length c = search needs
 
--- src/work.rt:120:1
 returns : tie.Need-returns
 returns c = rw (c .halt-for .ensures, c .before .fewer .ensures) (seconds-move (c .before .before .before .before .before .before .before .before .before .before .before .before .before .before .before .before .before .args .course) (c .before .before .before .before .before .before .before .before .before .before .before .before .before .before .before .before .before .args .source) (c .before .before .before .before .before .before .before .before .before .before .before .before .before .before .before .before .before .args .next) _ _ _ _ _ (in-three _ _ _ _ (c .before .before .before .before .before .before .before .before .before .before .before .handed-over .ensures .0) (c .before .before .before .before .before .before .before .before .before .before .before .handed-over .ensures .1)) (c .before .before .before .before .before .seconds .ensures))
 

@@ -7,63 +7,48 @@ use borrow.Author.Needs.{needs}
 use Rattle.course.proofs.work.work.Statement.{statement}
 use Rattle.course.proofs.work.work.Tie as tie
 
--- src/work.rt:185:9
 lesser-requires : tie.Need-lesser-requires
 lesser-requires c κs = search needs
 
--- src/work.rt:188:9
 waiting-requires : tie.Need-waiting-requires
 waiting-requires c κs = search needs
 
--- src/work.rt:188:9
 returns : tie.Need-returns
 returns c = rw (c .waiting .ensures) (none-left (c .before .before .before .before .before .args .course) (now (c .before .before .before .before .before .args .chunk)) (c .before .before .before .before .before .args .at) (c .before .before .before .before .before .args .ended) (now (c .before .before .before .before .before .args .rows)) _ (c .before .before .lesser .ensures) (c .before .if1 .taken))
 
--- src/work.rt:192:9
 waiting-requires-2 : tie.Need-waiting-requires-2
 waiting-requires-2 c κs = search needs
 
--- src/work.rt:192:9
 returns-2 : tie.Need-returns-2
 returns-2 c = rw (c .waiting2 .ensures) (no-room (c .before .before .before .before .before .before .args .course) (now (c .before .before .before .before .before .before .args .chunk)) (c .before .before .before .before .before .before .args .at) (c .before .before .before .before .before .before .args .ended) (now (c .before .before .before .before .before .before .args .rows)) _ (c .before .before .before .lesser .ensures) (c .before .if2 .taken))
 
--- src/work.rt:194:9
 batch-requires : tie.Need-batch-requires
 batch-requires c κs = search needs
 
--- src/work.rt:203:9
 array-borrow-prefix-loads : tie.Need-array-borrow-prefix-loads
 array-borrow-prefix-loads c = search needs
 
--- src/work.rt:203:9
 slice-aggregate-some-seconds : tie.Need-slice-aggregate-some-seconds
 slice-aggregate-some-seconds c = simp length-take (omega (arith, c .before .batch .ensures))
 
--- src/work.rt:204:9
 array-borrow-prefix-solars : tie.Need-array-borrow-prefix-solars
 array-borrow-prefix-solars c = search needs
 
--- src/work.rt:204:9
 slice-aggregate-some-seconds-2 : tie.Need-slice-aggregate-some-seconds-2
 slice-aggregate-some-seconds-2 c = simp length-take (omega (arith, c .before .before .batch .ensures))
 
--- src/work.rt:205:9
 array-borrow-prefix-sheddables : tie.Need-array-borrow-prefix-sheddables
 array-borrow-prefix-sheddables c = search needs
 
--- src/work.rt:205:9
 slice-aggregate-some-seconds-3 : tie.Need-slice-aggregate-some-seconds-3
 slice-aggregate-some-seconds-3 c = simp length-take (omega (arith, c .before .before .before .batch .ensures))
 
--- src/work.rt:198:5
 some-seconds-requires : tie.Need-some-seconds-requires
 some-seconds-requires c κs = record { some = simp length-take (omega (arith, c .before .before .before .before .batch .ensures)); most = simp length-take (omega (arith, c .before .before .before .before .batch .ensures)); want-left = simp length-take (omega (arith, c .before .before .before .before .batch .ensures)); want-room = simp length-take (omega (arith, c .before .before .before .before .batch .ensures)) }
 
--- src/work.rt:182:1
 same-length : tie.Need-same-length
 same-length c = search needs
 
--- src/work.rt:182:1
 returns-3 : tie.Need-returns-3
 returns-3 c = search needs
 

@@ -9,23 +9,18 @@ use borrow.Author.Needs.{needs}
 use Rattle.simulation.proofs.begin.begin.Statement.{statement}
 use Rattle.simulation.proofs.begin.begin.Tie as tie
 
--- src/begin.rt:18:9
 course-of-requires : tie.Need-course-of-requires
 course-of-requires c κs = search needs
 
--- src/begin.rt:23:20
 enum-told : tie.Need-enum-told
 enum-told c = search needs
 
--- src/begin.rt:26:26
 enum-known-verdict : tie.Need-enum-known-verdict
 enum-known-verdict c = search needs
 
--- src/begin.rt:15:1
 returns : tie.Need-returns
 returns c = begun-accepted (c .before .before .before .course-of .result) (stationWith (c .before .before .before .before .before .args .file) []) (checkedOf (c .before .before .before .before .before .args .checked)) (secondsAsked (now (c .before .before .before .before .before .args .asked))) (c .enum-told .given .1) (c .before .before .before .course-of .ensures)
 
--- src/begin.rt:15:1
 returns-2 : tie.Need-returns-2
 returns-2 c = begun-refused (c .before .before .before .before .course-of .result) (stationWith (c .before .before .before .before .before .before .args .file) []) (checkedOf (c .before .before .before .before .before .before .args .checked)) (secondsAsked (now (c .before .before .before .before .before .before .args .asked))) (c .before .verdict .given .0 .0) (c .before .verdict .given .1) (c .before .before .before .before .course-of .ensures)
 

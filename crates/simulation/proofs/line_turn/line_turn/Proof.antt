@@ -28,65 +28,51 @@ same-size c =
 set-states-requires : tie.Need-set-states-requires
 set-states-requires c κs = search needs
 
--- src/line_turn.rt:127:45
 sub-put-line-of : tie.Need-sub-put-line-of
 sub-put-line-of c = search needs
 
--- src/line_turn.rt:127:45
 part-put-line-of-start : tie.Need-part-put-line-of-start
 part-put-line-of-start c = search needs
 
--- src/line_turn.rt:127:45
 part-put-line-of-end : tie.Need-part-put-line-of-end
 part-put-line-of-end c = search needs
 
--- src/line_turn.rt:127:9
 put-line-of-requires : tie.Need-put-line-of-requires
 put-line-of-requires c κs = search needs
 
--- src/line_turn.rt:129:22
 enum-known-answer : tie.Need-enum-known-answer
 enum-known-answer c = search needs
 
--- src/line_turn.rt:130:48
 phase-after-requires : tie.Need-phase-after-requires
 phase-after-requires c κs = search needs
 
--- src/line_turn.rt:130:25
 with-phase-requires : tie.Need-with-phase-requires
 with-phase-requires c κs = search needs
 
--- src/line_turn.rt:132:22
 add-t17 : tie.Need-add-t17
 add-t17 c =
     let put = c .before .before .before .before .before .before .before in
     let start = put .before .before .before .before .before .before in
     omega (arith, line-room (start .args .t) (now (start .args .out)) _ _ (owes put) (same-size put) _ (c .before .before .before .answer .given .1) (start .pre), start .good .1 .0 .0)
 
--- src/line_turn.rt:135:43
 enum-told : tie.Need-enum-told
 enum-told c = search needs
 
--- src/line_turn.rt:135:32
 waiting-requires : tie.Need-waiting-requires
 waiting-requires c κs = search needs
 
--- src/line_turn.rt:118:1
 same-length : tie.Need-same-length
 same-length c = search needs
 
--- src/line_turn.rt:118:1
 returns : tie.Need-returns
 returns c =
     let put = c .before .before .before .before .before .before .before in
     let start = put .before .before .before .before .before .before in
     rw (c .with-phase .ensures, c .before .phase-after .ensures) (line-moves (start .args .t) (now (start .args .out)) _ _ (owes put) (same-size put) _ (c .before .before .before .answer .given .1) (start .pre))
 
--- src/line_turn.rt:118:1
 same-length-2 : tie.Need-same-length-2
 same-length-2 c = search needs
 
--- src/line_turn.rt:118:1
 returns-2 : tie.Need-returns-2
 returns-2 c =
     let put = c .before .before .before .before .before in

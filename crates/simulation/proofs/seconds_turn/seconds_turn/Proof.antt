@@ -8,59 +8,45 @@ use borrow.Author.Needs.{needs}
 use Rattle.simulation.proofs.seconds_turn.seconds_turn.Statement.{statement}
 use Rattle.simulation.proofs.seconds_turn.seconds_turn.Tie as tie
 
--- src/seconds_turn.rt:106:9
 seconds-to-work-requires : tie.Need-seconds-to-work-requires
 seconds-to-work-requires c κs = search needs
 
--- src/seconds_turn.rt:109:25
 with-phase-requires : tie.Need-with-phase-requires
 with-phase-requires c κs = search needs
 
--- src/seconds_turn.rt:108:9
 returns : tie.Need-returns
 returns c = rw (c .with-phase .ensures) (none-left-turn (c .before .before .before .before .before .before .args .t) (now (c .before .before .before .before .before .before .args .chunk)) (c .before .before .before .before .before .before .args .ended) (now (c .before .before .before .before .before .before .args .out)) (c .before .before .before .before .before .before .pre .0) (c .before .before .before .before .before .before .pre .1) (c .before .before .before .before .before .before .pre .2) (sym (c .before .before .seconds-to-work .ensures) ∙ c .before .if1 .taken))
 
--- src/seconds_turn.rt:115:16
 sub-room : tie.Need-sub-room
 sub-room c = search needs
 
--- src/seconds_turn.rt:116:15
 least-room-requires : tie.Need-least-room-requires
 least-room-requires c κs = search needs
 
--- src/seconds_turn.rt:117:9
 waiting-requires : tie.Need-waiting-requires
 waiting-requires c κs = search needs
 
--- src/seconds_turn.rt:117:9
 returns-2 : tie.Need-returns-2
 returns-2 c = rw (c .waiting .ensures) (no-room-turn (c .before .before .before .before .before .before .before .before .before .args .t) (now (c .before .before .before .before .before .before .before .before .before .args .chunk)) (c .before .before .before .before .before .before .before .before .before .args .ended) (now (c .before .before .before .before .before .before .before .before .before .args .out)) (c .before .before .before .before .before .before .before .before .before .pre .0) (c .before .before .before .before .before .before .before .before .before .pre .1) (c .before .before .before .before .before .before .before .before .before .pre .2) (c .before .before .least-room .result) (c .before .before .least-room .ensures .1) (c .before .if2 .taken))
 
--- src/seconds_turn.rt:119:9
 batch-requires : tie.Need-batch-requires
 batch-requires c κs = search needs
 
--- src/seconds_turn.rt:121:19
 mul-numbers : tie.Need-mul-numbers
 mul-numbers c = search needs
 
--- src/seconds_turn.rt:122:32
 array-borrow-prefix-rows : tie.Need-array-borrow-prefix-rows
 array-borrow-prefix-rows c = search needs
 
--- src/seconds_turn.rt:122:32
 slice-aggregate-some-rows : tie.Need-slice-aggregate-some-rows
 slice-aggregate-some-rows c = simp length-take (omega (arith, c .before .batch .ensures))
 
--- src/seconds_turn.rt:122:5
 some-rows-requires : tie.Need-some-rows-requires
 some-rows-requires c κs = (c .before .before .before .before .before .before .before .before .before .before .before .pre .2, record { phase-is = c .before .before .before .before .before .before .before .before .before .before .before .pre .0; next-in = c .before .before .before .before .before .before .before .before .before .before .before .pre .1; some-left = omega (arith, c .before .before .before .before .before .before .before .seconds-to-work .ensures, c .before .before .before .before .before .before .if1 .left); some = simp length-take (omega (arith, c .before .before .batch .ensures)); want-room = simp length-take (omega (arith, c .before .before .batch .ensures)) })
 
--- src/seconds_turn.rt:101:1
 same-length : tie.Need-same-length
 same-length c = search needs
 
--- src/seconds_turn.rt:101:1
 returns-3 : tie.Need-returns-3
 returns-3 c = search needs
 

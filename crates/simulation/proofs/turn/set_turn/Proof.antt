@@ -19,19 +19,15 @@ eight c = simp length-map at (c .good .0 .1 .1 .0 .1 .1 .1 .0 .1 .1 .1 .0 .1 .1 
 set-count-requires : tie.Need-set-count-requires
 set-count-requires c κs = search needs
 
--- src/turn.rt:52:9
 lesser-requires : tie.Need-lesser-requires
 lesser-requires c κs = search needs
 
--- src/turn.rt:54:9
 line-turn-requires : tie.Need-line-turn-requires
 line-turn-requires c κs = search needs
 
--- src/turn.rt:54:9
 same-length : tie.Need-same-length
 same-length c = search needs
 
--- src/turn.rt:54:9
 returns : tie.Need-returns
 returns c =
     let start = c .before .before .before .before .before .before .before .before .before .before in
@@ -40,11 +36,9 @@ returns c =
     let test = c .before .before .before .before .if1 .taken in
     λ chunk ended at-in. set-line-turn (start .args .t) chunk ended (now (start .args .out)) at-in (start .pre .1) (start .args .place) (start .pre .0) (eight start) (omega (arith, few, count, test)) (omega (arith, few, count, test)) _ _ (c .before .before .line-turn .ensures)
 
--- src/turn.rt:56:5
 all-over-requires : tie.Need-all-over-requires
 all-over-requires c κs = search needs
 
--- src/turn.rt:46:1
 returns-2 : tie.Need-returns-2
 returns-2 c =
     let start = c .before .before .before .before .before .before .before in
