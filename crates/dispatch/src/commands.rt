@@ -77,15 +77,18 @@ fn command(genset: GenSet, state: SetState, called: bool, release: bool) -> SetS
 }
 
 // Whether the mask has the set at a place.
-pub(crate) fn has_set(mask: u32, place: usize) -> bool
-    requires { ⌜ place < 8 ⌝ }
+pub fn has_set(mask: u32, place: usize) -> bool
     ensures { λ r. ⌜ r ≡ has mask place ⌝ }
 {
+    // a mask has no bit so high, and no shift reaches it
+    if 32 <= place {
+        return false;
+    }
     (mask >> place) % 2 == 1
 }
 
 // "every called set is On"
-pub(crate) fn every_on(states: [SetState; 8], mask: u32) -> bool
+pub fn every_on(states: [SetState; 8], mask: u32) -> bool
     ensures { λ r. ⌜ r ≡ everyOn states mask ⌝ }
 {
     let mut place = next_set(mask, 0);
@@ -102,7 +105,7 @@ pub(crate) fn every_on(states: [SetState; 8], mask: u32) -> bool
 }
 
 // The commands to every set, where the mask's sets are called.
-pub(crate) fn command_all(sets: [GenSet; 8], states: [SetState; 8], mask: u32) -> [SetState; 8]
+pub fn command_all(sets: [GenSet; 8], states: [SetState; 8], mask: u32) -> [SetState; 8]
     ensures { λ r. ⌜ r ≡ commandedAllIn sets states mask ⌝ }
 {
     let release = every_on(states, mask);

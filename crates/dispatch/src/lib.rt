@@ -1,6 +1,6 @@
 // One second of a run, its eleven steps, and many seconds on one judgement.
 pub mod admit;
-mod commands;
+pub mod commands;
 mod counts;
 pub mod inputs;
 pub mod parts;

@@ -1,4 +1,4 @@
--- The sets of a mask one after the other as what a quiet second adds is put beside them: at each place the sets before it have theirs,
+-- The sets of a mask one after the other as what a steady second adds is put beside them: at each place the sets before it have theirs,
 -- and what was given is the part of their running total. Assumes nothing.
 use Prim.Native.Nat.{ℕ, suc, _+_, _-_, _*_, _/_, _≤_, _<_, zero-le}
 use mathlib.Core.Path.{_≡_, _∙_}
@@ -21,9 +21,9 @@ use Rattle.words.proofs.Walk.{Place}
 use Rattle.words.proofs.Weighed.{weighed-has, weighed-not, weighed-rises}
 use Rattle.gensets.proofs.SharesWalk.{ratingOf}
 use Rattle.modes.proofs.Filled.{Filling, filling-start, filling-at, filling-more}
-use Rattle.dispatch.specs.Quiet.{energyAt, fuelAt, Addable}
-use Rattle.dispatch.specs.CurveTable.{Tabled, Readable}
+use Rattle.steady.specs.Steady.{energyAt, fuelAt, Addable}
+use Rattle.steady.specs.CurveTable.{Tabled, Readable}
 use Rattle.dispatch.proofs.PassedBy.{to-next}
 
 pub record Adding (sets : List GenSet) (mask diesel cap : ℕ) (energies fuels : List ℕ) (i given : ℕ) (adds burns : List ℕ) : Type 0 where
   pub gave : given ≡ diesel * runningTotal sets mask i / cap

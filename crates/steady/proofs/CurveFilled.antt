@@ -20,7 +20,7 @@ use Rattle.words.specs.Masks.{nextSet}
 use Rattle.words.proofs.Walk.{Place, place, next-from, between}
 use Rattle.words.proofs.Weighed.{weighed-has, walk-start, walk-turn}
 use Rattle.gensets.proofs.SharesWalk.{ratingOf}
-use Rattle.dispatch.specs.CurveTable.{InRule, LineAt, CurveAt, Untouched, Tabled, Fillable}
+use Rattle.steady.specs.CurveTable.{InRule, LineAt, CurveAt, Untouched, Tabled, Fillable}
 
 -- ---- a line: five stores
 

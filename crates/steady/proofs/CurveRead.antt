@@ -19,7 +19,7 @@ use Rattle.laws.proofs.FuelMost.{rate-most}
 use Rattle.gensets.specs.Leaves.{lineRight}
 use Rattle.gensets.proofs.Line.{first-most, second-most, width-some, base-most, start-most}
 use Rattle.gensets.proofs.FuelFacts.{line-passes}
-use Rattle.dispatch.specs.CurveTable.{InRule, Readable}
+use Rattle.steady.specs.CurveTable.{InRule, Readable}
 
 -- 1 where a line begins at or below a power x 1000
 abbrev pub begun : ℕ → ℕ → ℕ

@@ -1,4 +1,4 @@
--- Tables for a stretch of quiet seconds, in which the sets On stay the same: the running totals of their ratings (step 6 of document 01),
+-- Tables for a stretch of steady seconds, in which the sets On stay the same: the running totals of their ratings (step 6 of document 01),
 -- and the lines of their fuel curves in whole numbers (step 8). A place of `sums` is a set; each set has 20 places of `lines`, five for a line.
 use Prim.Native.Nat.{ℕ, suc, _+_, _*_, _≤_, _<_}
 use mathlib.Core.Path.{_≡_}

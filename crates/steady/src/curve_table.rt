@@ -1,4 +1,4 @@
-// Tables for a stretch of quiet seconds: the running totals of the mask's ratings, and the lines of its sets' fuel curves, so that a second
+// Tables for a stretch of steady seconds: the running totals of the mask's ratings, and the lines of its sets' fuel curves, so that a second
 // reads them and does not work them out anew.
 ghost use mathlib.Core.Path.{_≡_};
 ghost use Prim.Native.Nat.{suc, _+_, _*_, _≤_, _<_};
@@ -7,7 +7,7 @@ ghost use lib.ListN.{length};
 ghost use lib.Dec.{leb};
 ghost use Rattle.rules.specs.Numbers.{if_then_else_};
 ghost use Rattle.rules.specs.Fuel.{notBelowZero, lowerPoint, fuelRate};
-ghost use Rattle.dispatch.specs.CurveTable.{InRule, LineAt, CurveAt, Untouched, Tabled, Fillable, Readable};
+ghost use Rattle.steady.specs.CurveTable.{InRule, LineAt, CurveAt, Untouched, Tabled, Fillable, Readable};
 use rules::station::GenSet;
 use words::masks::next_set;
 

@@ -1,9 +1,9 @@
--- `dispatch::curve_table::burned_at` meets its contract. Assumes nothing.
+-- `steady::curve_table::burned_at` meets its contract. Assumes nothing.
 use borrow.Author.Needs.{needs}
 use native.Mathlib.Omega.{arith}
-use Rattle.dispatch.proofs.CurveRead.{thousands, within-table, start-fits, base-fits, first-fits, second-fits, some-width, rate-read}
-use Rattle.dispatch.proofs.curve_table.burned_at.Statement.{statement}
-use Rattle.dispatch.proofs.curve_table.burned_at.Tie as tie
+use Rattle.steady.proofs.CurveRead.{thousands, within-table, start-fits, base-fits, first-fits, second-fits, some-width, rate-read}
+use Rattle.steady.proofs.curve_table.burned_at.Statement.{statement}
+use Rattle.steady.proofs.curve_table.burned_at.Tie as tie
 
 mul-base : tie.Need-mul-base
 mul-base c = search needs

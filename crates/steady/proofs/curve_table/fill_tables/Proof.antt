@@ -1,13 +1,13 @@
--- `dispatch::curve_table::fill_tables` meets its contract. Assumes nothing.
+-- `steady::curve_table::fill_tables` meets its contract. Assumes nothing.
 use borrow.Author.Needs.{needs}
 use Prim.Native.Nat.{_-_}
 use mathlib.Core.Path.{sym, _∙_}
 use native.Mathlib.Omega.{arith}
 use Rattle.rules.specs.StationRecord.{pastEnd, setAt}
 use Rattle.words.proofs.Walk.{forward}
-use Rattle.dispatch.proofs.CurveFilled.{Tabling, tabling-start, tabling-more, tabled, set-in-rule, sum-small}
-use Rattle.dispatch.proofs.curve_table.fill_tables.Statement.{statement}
-use Rattle.dispatch.proofs.curve_table.fill_tables.Tie as tie
+use Rattle.steady.proofs.CurveFilled.{Tabling, tabling-start, tabling-more, tabled, set-in-rule, sum-small}
+use Rattle.steady.proofs.curve_table.fill_tables.Statement.{statement}
+use Rattle.steady.proofs.curve_table.fill_tables.Tie as tie
 
 abbrev Inv-loop : tie.InvT-loop
 Inv-loop mask sums₀ lines₀ sets sum₀ place₀ sums lines sum place = Tabling sets mask place sum sums lines

@@ -1,4 +1,4 @@
--- `dispatch::curve_table::height` meets its contract: every number on the way fits 64 bits, so what the machine reads back is each number
+-- `steady::curve_table::height` meets its contract: every number on the way fits 64 bits, so what the machine reads back is each number
 -- itself. Assumes nothing.
 use borrow.Author.Needs.{needs}
 use mathlib.Core.Path.{_≡_}
@@ -12,8 +12,8 @@ use mir.Val.{SFits, toZ, ofZ}
 use mir.ValLaws.{toZ-pos, toZ-ofZ}
 use Rattle.laws.proofs.FuelMost.{abs-minus, abs-times, abs-plus}
 use Rattle.gensets.proofs.Signed.{sfits, cut-below, cut-above, above}
-use Rattle.dispatch.proofs.curve_table.height.Statement.{statement}
-use Rattle.dispatch.proofs.curve_table.height.Tie as tie
+use Rattle.steady.proofs.curve_table.height.Statement.{statement}
+use Rattle.steady.proofs.curve_table.height.Tie as tie
 
 -- the differences, the product and the sum, of the arguments
 abbrev up : tie.Start → ℤ

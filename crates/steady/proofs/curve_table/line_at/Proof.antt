@@ -1,8 +1,8 @@
--- `dispatch::curve_table::line_at` meets its contract. Assumes nothing.
+-- `steady::curve_table::line_at` meets its contract. Assumes nothing.
 use borrow.Author.Needs.{needs}
-use Rattle.dispatch.proofs.CurveRead.{line-counted}
-use Rattle.dispatch.proofs.curve_table.line_at.Statement.{statement}
-use Rattle.dispatch.proofs.curve_table.line_at.Tie as tie
+use Rattle.steady.proofs.CurveRead.{line-counted}
+use Rattle.steady.proofs.curve_table.line_at.Statement.{statement}
+use Rattle.steady.proofs.curve_table.line_at.Tie as tie
 
 mul-at : tie.Need-mul-at
 mul-at c = search needs

@@ -1,8 +1,8 @@
--- `dispatch::curve_table::passed` meets its contract. Assumes nothing.
+-- `steady::curve_table::passed` meets its contract. Assumes nothing.
 use native.Mathlib.Omega.{arith}
 use borrow.Author.Tests.{le-leb, lt-leb}
-use Rattle.dispatch.proofs.curve_table.passed.Statement.{statement}
-use Rattle.dispatch.proofs.curve_table.passed.Tie as tie
+use Rattle.steady.proofs.curve_table.passed.Statement.{statement}
+use Rattle.steady.proofs.curve_table.passed.Tie as tie
 
 returns : tie.Need-returns
 returns c = (rw (le-leb _ _ (c .if1 .taken)), omega arith)

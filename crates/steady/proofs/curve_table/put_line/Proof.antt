@@ -1,4 +1,4 @@
--- `dispatch::curve_table::put_line` meets its contract: the numbers of a line in rule fit 64 bits. Assumes nothing.
+-- `steady::curve_table::put_line` meets its contract: the numbers of a line in rule fit 64 bits. Assumes nothing.
 use borrow.Author.Needs.{needs}
 use mathlib.Core.Path.{_≡_}
 use mathlib.Core.Bool.{true}
@@ -12,9 +12,9 @@ use Rattle.rules.proofs.StationFacts.{points-range}
 use Rattle.gensets.specs.Leaves.{lineRight}
 use Rattle.gensets.proofs.Line.{rising, second-most, width-most, base-most, start-most}
 use Rattle.gensets.proofs.FuelFacts.{line-inside}
-use Rattle.dispatch.proofs.CurveFilled.{five-numbers, five-below}
-use Rattle.dispatch.proofs.curve_table.put_line.Statement.{statement}
-use Rattle.dispatch.proofs.curve_table.put_line.Tie as tie
+use Rattle.steady.proofs.CurveFilled.{five-numbers, five-below}
+use Rattle.steady.proofs.curve_table.put_line.Statement.{statement}
+use Rattle.steady.proofs.curve_table.put_line.Tie as tie
 
 -- the line is in rule, and both its points are among the five
 in-line : (c : tie.Start) → lineRight (c .args .genset) (c .args .j) ≡ true

@@ -1,12 +1,12 @@
--- `dispatch::curve_table::put_lines` meets its contract. Assumes nothing.
+-- `steady::curve_table::put_lines` meets its contract. Assumes nothing.
 use borrow.Author.Needs.{needs}
 use Prim.Native.Nat.{ℕ, _+_, _-_, _*_, _<_}
 use native.Mathlib.Omega.{arith}
 use lib.ListN.{length, length-set}
 use lib.Seq.{getD-set-same, take-set-le}
-use Rattle.dispatch.proofs.CurveFilled.{Drawing, drawing-start, drawing-more, drawn-all}
-use Rattle.dispatch.proofs.curve_table.put_lines.Statement.{statement}
-use Rattle.dispatch.proofs.curve_table.put_lines.Tie as tie
+use Rattle.steady.proofs.CurveFilled.{Drawing, drawing-start, drawing-more, drawn-all}
+use Rattle.steady.proofs.curve_table.put_lines.Statement.{statement}
+use Rattle.steady.proofs.curve_table.put_lines.Tie as tie
 
 abbrev Inv-loop : tie.InvT-loop
 Inv-loop genset base lines₀ j₀ lines j = Drawing genset base lines₀ j lines

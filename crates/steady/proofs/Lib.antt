@@ -1,0 +1,6 @@
+-- Laws by subject, and what the functions' proofs share.
+pub mod EventLaws
+pub mod SteadyLaws
+pub mod CurveFilled
+pub mod CurveRead
+pub mod Adding
