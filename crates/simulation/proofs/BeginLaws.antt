@@ -1,60 +1,38 @@
--- What a run begins with, by what its files and the seconds asked come to. Assumes nothing.
-use Prim.Native.Nat.{ℕ, _≤_}
-use mathlib.Core.Path.{_≡_, refl, sym, ap, _∙_, subst}
-use mathlib.Core.List.{List}
+-- What a run begins with, by what its course begins with. Assumes nothing.
+use Prim.Native.Nat.{ℕ}
+use mathlib.Core.Path.{_≡_, refl}
 use native.Mathlib.Omega.{arith}
-use lib.Dec.{leb}
-use borrow.Author.Tests.{leb-true}
 use Rattle.rules.specs.declared.answers.Refusal.{Refusal}
+use Rattle.rules.specs.declared.answers.Verdict.{Verdict}
 use Rattle.rules.specs.declared.station.Station.{Station}
-use Rattle.rules.specs.Answers.{Answer, accepted, refused, judged, valueOr, numberAndPlace, refusalOf}
-use Rattle.rules.specs.StationRecord.{noStation}
-use Rattle.rules.specs.RunRecord.{mostSeconds}
-use Rattle.rules.specs.Bytes.{digits, value}
-use Rattle.rules.specs.Run.{secondsAsked}
-use Rattle.rules.proofs.Checks.{passed, same-value}
+use Rattle.rules.specs.Answers.{Answer, accepted, refused, numberAndPlace, refusalOf}
 use Rattle.samples.specs.declared.check.Span.{Span}
-use Rattle.simulation.specs.declared.state.Simulation.{Simulation}
-use Rattle.simulation.specs.Begin.{Refuses, BegunAs, AskedAs}
+use Rattle.course.specs.declared.begin.Begun.{Begun}
+use Rattle.course.specs.Begin as course
+use Rattle.simulation.specs.declared.state.Phase.{Phase}
+use Rattle.simulation.specs.Begin.{Refuses, BegunAs}
 
-pub asked-most : (s : List ℕ) (v : ℕ) → accepted v ≡ secondsAsked s → v ≤ 316_224_000
-unfolding secondsAsked
-asked-most s v h =
-    let a = passed (digits 9 s) 18 0 _ v (sym h) in
-    let b = passed (leb (value s) mostSeconds) 23 0 _ v (a .1) in
-    let small = leb-true (value s) mostSeconds (b .0) in
-    omega (arith, small, same-value (value s) v (b .1))
+module _ (b : Begun) where
+  -- a refusal in the paper's numbers
+  refuses : (n p : ℕ) (refusal : Refusal) → b .verdict ≡ Verdict.Refused refusal → course.Refuses n p b → Refuses n p (record { phase = Phase.Refusal refusal; course = b .course })
+  refuses n p refusal e r =
+      let told : refusalOf {A = Unit {0}} refusal ≡ refused n p = rw e at (r .verdict-is) in
+      let a : numberAndPlace refusal .0 ≡ n = cc in
+      let c : numberAndPlace refusal .1 ≡ p = cc in
+      record { refusal = refusal; phase-is = refl; number-is = a; place-is = c; nothing = r .nothing }
 
--- a refusal in the paper's numbers
-refuses : (refusal : Refusal) (n p : ℕ) (s : Simulation) → refusalOf {A = ℕ} refusal ≡ refused n p → Refuses (numberAndPlace refusal .0) (numberAndPlace refusal .1) s → Refuses n p s
-refuses refusal n p s e r =
-    let a : numberAndPlace refusal .0 ≡ n = cc in
-    let b : numberAndPlace refusal .1 ≡ p = cc in
-    record { refusal = r .refusal; phase-is = r .phase-is; number-is = r .number-is ∙ a; place-is = r .place-is ∙ b; none-left = r .none-left }
+  never-refused : {A : Type 0} (n p : ℕ) → b .verdict ≡ Verdict.Accepted → course.Refuses n p b → A
+  never-refused n p e r = absurd (let told : accepted tt ≡ refused n p = rw e at (r .verdict-is) in let z : _≡_ {A = ℕ} 0 1 = cc in omega arith)
 
-module _ (s : Simulation) where
-  pub asked-refused : (a : Answer ℕ) (st : Station) (refusal : Refusal) → refusalOf refusal ≡ a → Refuses (numberAndPlace refusal .0) (numberAndPlace refusal .1) s → AskedAs a st s
-  asked-refused (accepted v) st refusal e r = absurd (let z : _≡_ {A = ℕ} 0 1 = cc in omega arith)
-  asked-refused (refused n p) st refusal e r = refuses refusal n p s e r
+  pub begun-refused : (a : Answer Station) (s : Answer Span) (q : Answer ℕ) (refusal : Refusal) → b .verdict ≡ Verdict.Refused refusal → course.BegunAs a s q b → BegunAs a s q (record { phase = Phase.Refusal refusal; course = b .course })
+  begun-refused (refused n p) s q refusal e h = refuses n p refusal e h
+  begun-refused (accepted st) (refused n p) q refusal e h = refuses n p refusal e h
+  begun-refused (accepted st) (accepted span) (refused n p) refusal e h = refuses n p refusal e h
+  begun-refused (accepted st) (accepted span) (accepted n) refusal e h =
+      absurd (let told : refusalOf {A = Unit {0}} refusal ≡ accepted tt = rw e at (h .verdict-is) in let z : _≡_ {A = ℕ} 0 1 = cc in omega arith)
 
-  pub station-refused : (a : Answer Station) (c : Answer Span) (q : Answer ℕ) (refusal : Refusal) → refusalOf refusal ≡ judged a → Refuses (numberAndPlace refusal .0) (numberAndPlace refusal .1) s → BegunAs a c q s
-  station-refused (accepted st) c q refusal e r = absurd (let z : _≡_ {A = ℕ} 0 1 = cc in omega arith)
-  station-refused (refused n p) c q refusal e r =
-      let z : refusalOf {A = ℕ} refusal ≡ refused n p = cc in
-      refuses refusal n p s z r
-
-  pub samples-refused : (a : Answer Station) (c : Answer Span) (q : Answer ℕ) (refusal : Refusal) → accepted tt ≡ judged a → c ≡ refusalOf refusal → Refuses (numberAndPlace refusal .0) (numberAndPlace refusal .1) s → BegunAs a c q s
-  samples-refused (refused n p) c q refusal ok e r = absurd (let z : _≡_ {A = ℕ} 0 1 = cc in omega arith)
-  samples-refused (accepted st) (accepted span) q refusal ok e r = absurd (let z : _≡_ {A = ℕ} 0 1 = cc in omega arith)
-  samples-refused (accepted st) (refused n p) q refusal ok e r =
-      let z : refusalOf {A = ℕ} refusal ≡ refused n p = cc in
-      refuses refusal n p s z r
-
-  by-asked : (st : Station) (span : Span) (q : Answer ℕ) → AskedAs q st s → BegunAs (accepted st) (accepted span) q s
-  by-asked st span (accepted v) h = h
-  by-asked st span (refused n p) h = h
-
-  pub all-accepted : (a : Answer Station) (c : Answer Span) (q : Answer ℕ) (st : Station) (span : Span) → accepted tt ≡ judged a → st ≡ valueOr noStation a → c ≡ accepted span → AskedAs q st s → BegunAs a c q s
-  all-accepted (refused n p) c q st span ok is e h = absurd (let z : _≡_ {A = ℕ} 0 1 = cc in omega arith)
-  all-accepted (accepted st′) c q st span ok is e h =
-      subst (λ (x : Answer Span). BegunAs (accepted st′) x q s) (sym e) (by-asked st′ span q (subst (λ (x : Station). AskedAs q x s) is h))
+  pub begun-accepted : (a : Answer Station) (s : Answer Span) (q : Answer ℕ) → b .verdict ≡ Verdict.Accepted → course.BegunAs a s q b → BegunAs a s q (record { phase = Phase.Heading; course = b .course })
+  begun-accepted (refused n p) s q e h = never-refused n p e h
+  begun-accepted (accepted st) (refused n p) q e h = never-refused n p e h
+  begun-accepted (accepted st) (accepted span) (refused n p) e h = never-refused n p e h
+  begun-accepted (accepted st) (accepted span) (accepted n) e h = record { phase-is = refl; course-is = h .course-is }

@@ -1,8 +1,8 @@
 -- Turn after turn of a call. Assumes nothing.
-use Prim.Native.Nat.{ℕ, zero, suc, _+_, _-_, _*_, _≤_, _<_, min}
+use Prim.Native.Nat.{ℕ, _+_, _-_, _*_, _≤_, _<_, min}
 use mathlib.Core.Path.{_≡_, refl, sym, ap, _∙_, subst}
 use mathlib.Core.Bool.{Bool, true, false}
-use mathlib.Core.List.{List, [], _∷_, _++_, append-nil, append-assoc}
+use mathlib.Core.List.{List, [], _++_, append-assoc}
 use native.Mathlib.Omega.{arith}
 use lib.ListN.{length, take, drop, length-append, drop-of-length-le}
 use lib.Dec.{leb}
@@ -13,7 +13,7 @@ use Rattle.simulation.specs.declared.state.Simulation.{Simulation}
 use Rattle.simulation.specs.declared.state.Turn.{Turn}
 use Rattle.simulation.specs.declared.state.Wants.{Wants}
 use Rattle.simulation.specs.Text.{toPrint}
-use Rattle.simulation.specs.Turns.{Comes, ComesOn, weight, finished, Ended, Moved}
+use Rattle.simulation.specs.Turns.{Comes, ComesOn, weight, Ended, Moved}
 use Rattle.simulation.specs.Calls.{goesOn, Stopped, Called}
 
 -- whether a further turn is to come, as a number
@@ -31,8 +31,8 @@ module _ (s : Simulation) (chunk : List ℕ) (at : ℕ) (ended : Bool) (out₀ :
 
   pub record Going (out : List ℕ) (t : Turn) : Type 0 where
     pub worked : List Inputs
-    pub left-is : length worked + t .simulation .left ≡ s .left
-    pub text : (xs : List Inputs) → length xs ≡ t .simulation .left → toPrint s (worked ++ xs) ≡ take (t .written) out ++ toPrint (t .simulation) xs
+    pub left-is : length worked + t .simulation .course .left ≡ s .course .left
+    pub text : (xs : List Inputs) → length xs ≡ t .simulation .course .left → toPrint s (worked ++ xs) ≡ take (t .written) out ++ toPrint (t .simulation) xs
     pub inputs : (rest : List ℕ) → (ended ≡ true → rest ≡ []) → (xs : List Inputs) → Comes s (drop at chunk ++ rest) xs
         → ComesOn worked xs (t .simulation) (drop (t .next) chunk ++ rest)
     pub within : t .next ≤ length chunk
@@ -40,6 +40,7 @@ module _ (s : Simulation) (chunk : List ℕ) (at : ℕ) (ended : Bool) (out₀ :
     pub size : length out ≡ length out₀
     pub kept : drop (t .written) out ≡ drop (t .written) out₀
     pub less : weight (t .simulation) ≤ weight s
+    pub small : length out₀ < 256 → t .written ≡ 0
     pub some : 1 ≤ t .written → goesOn (t .wants) ≡ true → weight (t .simulation) < weight s
     pub stopped : StoppedYet (t .wants) t
 
@@ -67,15 +68,16 @@ module _ (s : Simulation) (chunk : List ℕ) (at : ℕ) (ended : Bool) (out₀ :
         size = refl;
         kept = refl;
         less = omega arith;
+        small = λ h. refl;
         some = λ h g. absurd (omega (arith, h));
         stopped = tt;
       }
 
   module _ (out out′ : List ℕ) (t r : Turn) (g : Going out t) (on : goesOn (t .wants) ≡ true) (m : Moved t chunk ended out r out′) where
-    text-on : (xs : List Inputs) → length xs ≡ r .simulation .left → toPrint s ((g .worked ++ m .worked) ++ xs) ≡ take (r .written) out′ ++ toPrint (r .simulation) xs
+    text-on : (xs : List Inputs) → length xs ≡ r .simulation .course .left → toPrint s ((g .worked ++ m .worked) ++ xs) ≡ take (r .written) out′ ++ toPrint (r .simulation) xs
     text-on xs l =
         ap (toPrint s) (append-assoc (g .worked) (m .worked) xs)
-        ∙ g .text (m .worked ++ xs) (length-append (m .worked) xs ∙ (let z : length (m .worked) + length xs ≡ t .simulation .left = omega (arith, m .left-is, l) in z))
+        ∙ g .text (m .worked ++ xs) (length-append (m .worked) xs ∙ (let z : length (m .worked) + length xs ≡ t .simulation .course .left = omega (arith, m .left-is, l) in z))
         ∙ m .text xs l
 
     inputs-on : (rest : List ℕ) → (ended ≡ true → rest ≡ []) → (xs : List Inputs) → Comes s (drop at chunk ++ rest) xs → ComesOn (g .worked ++ m .worked) xs (r .simulation) (drop (r .next) chunk ++ rest)
@@ -121,6 +123,7 @@ module _ (s : Simulation) (chunk : List ℕ) (at : ℕ) (ended : Bool) (out₀ :
           size = m .size ∙ g .size;
           kept = kept-on;
           less = omega (arith, m .less, g .less);
+          small = λ h. m .small (omega (arith, h, g .size)) ∙ g .small h;
           some = λ h f. some-on (r .wants) (m .wants) f;
           stopped = stops (r .wants) (m .wants);
         }
@@ -156,5 +159,6 @@ module _ (s : Simulation) (chunk : List ℕ) (at : ℕ) (ended : Bool) (out₀ :
         fits = g .fits;
         kept = g .kept;
         less = g .less;
+        small = g .small;
         wants = ends-stopped (t .wants) t f (g .stopped);
       }

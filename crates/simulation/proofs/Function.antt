@@ -3,7 +3,7 @@
 -- All that is known of a call is what the function's own contract ensures. Assumes nothing but what the hypotheses say: both passes
 -- over the sample file read the same bytes, fewer than 2^64.
 use Prim.Native.Nat.{ℕ, _≤_}
-use mathlib.Core.Path.{_≡_, refl, sym, ap, _∙_, subst}
+use mathlib.Core.Path.{_≡_, sym, ap, _∙_, subst}
 use mathlib.Core.Bool.{Bool}
 use mathlib.Core.List.{List, [], _++_}
 use lib.ListN.{length}
@@ -23,7 +23,7 @@ use Rattle.intake.proofs.StationChunks as stations
 use Rattle.samples.specs.declared.check.Span.{Span}
 use Rattle.samples.specs.declared.check.SampleCheck.{SampleCheck}
 use Rattle.samples.specs.declared.check.Checked.{Checked}
-use Rattle.samples.specs.ToCome.{mostPlace, placed}
+use Rattle.samples.specs.ToCome.{mostPlace}
 use Rattle.samples.specs.Streamed.{sheetSpan, checkedOf}
 use Rattle.samples.specs.Chunks.{joined, Feeds}
 use Rattle.samples.proofs.CheckLaws.{span-place}
@@ -135,11 +135,11 @@ module _ (chunks : List (List ℕ)) (asked : List ℕ) (f₀ f : StationBytes) (
 
   -- for a run that is not refused these are the heading, the rows of those seconds and the sets' lines: no refusal stands among the rows
   pub rows-alone : (passTwo : List (List ℕ)) (n : ℕ) (out : List ℕ) (last : Simulation) → s .phase ≡ Phase.Heading → (calls : Calls CalledBy s 0 passTwo n out last)
-      → rowHeading ++ rowsWith (s .station) (other-bytes passTwo 0 n out last calls .inputs) (s .run) ≡ out ++ other-bytes passTwo 0 n out last calls .later
+      → rowHeading ++ rowsWith (s .course .station) (other-bytes passTwo 0 n out last calls .inputs) (s .course .run) ≡ out ++ other-bytes passTwo 0 n out last calls .later
   unfolding textOf
   rows-alone passTwo n out last e calls =
       let o = other-bytes passTwo 0 n out last calls in
-      sym (ap (λ (p : Phase). textOf p (s .station) (s .run) (o .inputs)) e) ∙ o .begins
+      sym (ap (λ (p : Phase). textOf p (s .course .station) (s .course .run) (o .inputs)) e) ∙ o .begins
 
 -- ---- and they come to an end: where each call of `advance` is answered, whatever it is handed
 

@@ -1,10 +1,7 @@
 -- The lines and the seconds of a turn, and the turns.
 pub mod LineLaws
-pub mod Worked
-pub mod SecondsLaws
-pub mod InputsRight
 pub mod TurnLaws
-pub mod SecondsTurn
+pub mod RowsTurn
 pub mod PhaseTurns
 pub mod CallLaws
 pub mod BeginLaws

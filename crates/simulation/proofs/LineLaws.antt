@@ -1,20 +1,30 @@
 -- A line that is put into the tail of a lent buffer. Assumes nothing.
-use Prim.Native.Nat.{ℕ, _+_, _-_, _≤_, _<_}
+use Prim.Native.Nat.{ℕ, _+_, _-_, _≤_}
 use mathlib.Core.Path.{_≡_, refl, sym, ap, _∙_}
-use mathlib.Core.Bool.{Bool, true, false}
-use mathlib.Core.List.{List, [], _∷_, _++_}
+use mathlib.Core.Bool.{true, false}
+use mathlib.Core.List.{List, _++_, append-nil}
 use native.Mathlib.Omega.{arith}
 use lib.Dec.{leb}
-use lib.ListN.{length, take, drop, length-append, length-drop, take-append-drop}
+use lib.ListN.{length, take, drop, length-append, length-drop, drop-of-length-le, take-append-drop}
+use lib.Seq.{take-all}
 use Rattle.rules.specs.declared.answers.Outcome.{Outcome}
 use Rattle.rules.specs.declared.answers.Refusal.{Refusal}
-use Rattle.dispatch.proofs.Going.{rest-is, back-is}
 use Rattle.rows.specs.Written.{TextPut}
 use Rattle.rows.proofs.Room.{put-means, none-means}
 use Rattle.simulation.specs.declared.state.Turn.{Turn}
 use Rattle.simulation.specs.declared.state.Wants.{Wants}
 use Rattle.simulation.specs.Text.{lineOf}
-use Rattle.simulation.specs.Turns.{LineBy, LineMoved, withLine, waitingFor, putAt}
+use Rattle.simulation.specs.Turns.{LineMoved, withLine, waitingFor}
+
+-- ---- the tail of a buffer that was lent, and the buffer when it has come back
+
+pub rest-is : (l : List ℕ) (k : ℕ) → take (length l - k) (drop k l) ≡ drop k l
+rest-is l k = take-all (length l - k) (drop k l) (omega (arith, length-drop k l))
+
+pub back-is : (l ys : List ℕ) (k : ℕ) → take k l ++ (ys ++ drop (length l - k) (drop k l)) ≡ take k l ++ ys
+back-is l ys k =
+    let h : length (drop k l) ≤ length l - k = omega (arith, length-drop k l) in
+    rw (drop-of-length-le (drop k l) h, append-nil)
 
 -- a text that a part of a buffer took fits into it
 pub put-fits : (text lent left : List ℕ) → left ≡ text ++ drop (length text) lent → length left ≡ length lent → length text ≤ length lent
@@ -24,7 +34,7 @@ put-fits text lent left is same = omega (arith, ap length is, length-append text
 
 module _ (t : Turn) (out left : List ℕ) where
   abbrev line : List ℕ
-  line = lineOf (t .simulation .phase) (t .simulation .run .sets)
+  line = lineOf (t .simulation .phase) (t .simulation .course .run .sets)
 
   abbrev lent : List ℕ
   lent = drop (t .written) out

@@ -6,15 +6,15 @@ use mathlib.Core.List.{List, [], _∷_, _++_, append-nil, append-assoc}
 use native.Mathlib.Omega.{arith}
 use native.Mathlib.Nat.{not-suc-le-zero}
 use lib.Dec.{leb, ltb}
-use lib.ListN.{length, take, drop, getD, length-append, length-take, drop-of-length-le}
-use borrow.Author.Tests.{leb-true, leb-false, ltb-true, ltb-false, lt-ltb}
+use lib.ListN.{length, take, drop, getD, length-take, drop-of-length-le}
+use borrow.Author.Tests.{leb-true, leb-false, lt-ltb}
 use Rattle.rules.specs.declared.answers.Refusal.{Refusal}
 use Rattle.rules.specs.declared.run.Inputs.{Inputs}
 use Rattle.rules.specs.declared.run.SetState.{SetState}
 use Rattle.rules.specs.declared.run.Mode.the-variants.{Off}
 use Rattle.rules.specs.Numbers.{if_then_else_}
 use Rattle.rules.specs.Modes.{fresh, stateAt}
-use Rattle.rules.specs.Row.{setHeading, setLines}
+use Rattle.rules.specs.Row.{setLines}
 use Rattle.rows.specs.SetLine.{setLine}
 use Rattle.rows.proofs.SetLine.{set-lines-step}
 use Rattle.simulation.specs.declared.state.Phase.{Phase}
@@ -23,7 +23,7 @@ use Rattle.simulation.specs.declared.state.Turn.{Turn}
 use Rattle.simulation.specs.declared.state.Wants.{Wants}
 use Rattle.simulation.specs.Rows.{setTexts}
 use Rattle.simulation.specs.Text.{textOf, toPrint, lineOf, phaseAfter, setLineAt, withPhase}
-use Rattle.simulation.specs.Turns.{Ready, Coming, NoMore, ComesIn, Comes, rank, weight, finished, Moved, LineBy, LineMoved, withLine, waitingFor, putAt}
+use Rattle.simulation.specs.Turns.{ComesIn, Comes, rank, weight, finished, Moved, LineBy, LineMoved, withLine, waitingFor, putAt}
 use Rattle.simulation.proofs.TurnLaws.{put-front, put-rest, put-size, quiet}
 
 -- ---- a line, and then the phase after it
@@ -36,15 +36,15 @@ module _ (t : Turn) (chunk : List ℕ) (ended : Bool) (out : List ℕ) (at-in : 
   next = withPhase s (phaseAfter (s .phase))
 
   abbrev line : List ℕ
-  line = lineOf (s .phase) (s .run .sets)
+  line = lineOf (s .phase) (s .course .run .sets)
 
   pub room-turn : length out - t .written < 256 → Moved t chunk ended out (waitingFor t Wants.Room) out
   room-turn h = quiet t chunk ended out s (t .next) Wants.Room refl (λ xs l. refl) (λ rest k zs l. l) at-in (omega arith) out-in (omega arith) (λ roomy. omega (arith, h, roomy), refl)
 
   module _ (text-is : (xs : List Inputs) → toPrint s xs ≡ line ++ toPrint next xs) (comes : (rest : List ℕ) (xs : List Inputs) → Comes s rest xs → Comes next rest xs)
       (lighter : rank (phaseAfter (s .phase)) < rank (s .phase)) where
-    with-line : t .written + length line ≤ length out → Moved t chunk ended out (withLine t) (putAt out (t .written) line)
-    with-line fits =
+    with-line : 256 ≤ length out - t .written → t .written + length line ≤ length out → Moved t chunk ended out (withLine t) (putAt out (t .written) line)
+    with-line roomy fits =
         let w : weight next < weight s = omega (arith, lighter) in
         record {
           worked = [];
@@ -58,11 +58,12 @@ module _ (t : Turn) (chunk : List ℕ) (ended : Bool) (out : List ℕ) (at-in : 
           size = put-size out line (t .written) fits;
           kept = put-rest out line (t .written) fits;
           less = omega (arith, w);
+          small = λ h. absurd (omega (arith, h, roomy));
           wants = w;
         }
 
     by-room : (b : Bool) → leb 256 (length out - t .written) ≡ b → (r : Turn) (out′ : List ℕ) → LineBy b t out r out′ → Moved t chunk ended out r out′
-    by-room true e r out′ m = rw (m .0, m .1) (with-line (m .2))
+    by-room true e r out′ m = rw (m .0, m .1) (with-line (leb-true 256 (length out - t .written) e) (m .2))
     by-room false e r out′ m = rw (m .0, m .1) (room-turn (leb-false 256 (length out - t .written) e))
 
     line-turned : (r : Turn) (out′ : List ℕ) → LineMoved t out r out′ → Moved t chunk ended out r out′
@@ -83,18 +84,8 @@ module _ (t : Turn) (chunk : List ℕ) (ended : Bool) (out : List ℕ) (at-in : 
   heading-turn e =
       line-turned
       (λ xs. rw e)
-      (λ rest xs c. subst (λ (p : Phase). ComesIn (phaseAfter p) (withPhase s (phaseAfter p)) rest xs) (sym e) (onward rest xs (subst (λ (p : Phase). ComesIn p s rest xs) e c)))
+      (λ rest xs c. subst (λ (p : Phase). ComesIn (phaseAfter p) (withPhase s (phaseAfter p)) rest xs) (sym e) (subst (λ (p : Phase). ComesIn p s rest xs) e c))
       (let a = ap rank e in let b = ap (λ (p : Phase). rank (phaseAfter p)) e in omega (arith, a, b))
-    where
-      onward : (rest : List ℕ) (xs : List Inputs) → Coming s rest xs → Coming (withPhase s Phase.Seconds) rest xs
-      onward rest xs k =
-          record {
-            ready = record { station-given = k .ready .station-given; tables = k .ready .tables; record-possible = k .ready .record-possible; in-time = k .ready .in-time };
-            rows = k .rows;
-            accepts = k .accepts;
-            right = k .right;
-            are = k .are;
-          }
 
   pub set-heading-turn : s .phase ≡ Phase.SetHeading → (r : Turn) (out′ : List ℕ) → LineMoved t out r out′ → Moved t chunk ended out r out′
   unfolding textOf lineOf setTexts
@@ -122,8 +113,8 @@ module _ (t : Turn) (chunk : List ℕ) (ended : Bool) (out : List ℕ) (at-in : 
   from-place (x ∷ l) (suc n) zero h k = refl
   from-place (x ∷ l) (suc n) (suc i) h k = from-place l n i (omega arith) (omega arith)
 
-  module _ (place : ℕ) (e : s .phase ≡ Phase.SetLine place) (sets-length : length (s .run .sets) ≡ 8) where
-    pub set-line-turn : place < 8 → place < s .station .setcount → (r : Turn) (out′ : List ℕ) → LineMoved t out r out′ → Moved t chunk ended out r out′
+  module _ (place : ℕ) (e : s .phase ≡ Phase.SetLine place) (sets-length : length (s .course .run .sets) ≡ 8) where
+    pub set-line-turn : place < 8 → place < s .course .station .setcount → (r : Turn) (out′ : List ℕ) → LineMoved t out r out′ → Moved t chunk ended out r out′
     unfolding textOf lineOf setLineAt stateAt
     set-line-turn small exists =
         line-turned
@@ -132,24 +123,24 @@ module _ (t : Turn) (chunk : List ℕ) (ended : Bool) (out : List ℕ) (at-in : 
         (let a = ap rank e in let b = ap (λ (p : Phase). rank (phaseAfter p)) e in omega (arith, a, b))
       where
         sets : List SetState
-        sets = s .run .sets
+        sets = s .course .run .sets
 
-        one-more : setLines place (drop place (take (s .station .setcount) (s .run .sets)))
-            ≡ (if ltb place 8 then setLine (suc place) (getD (s .run .sets) place (fresh Off)) else []) ++ setLines (min (suc place) 8) (drop (min (suc place) 8) (take (s .station .setcount) (s .run .sets)))
+        one-more : setLines place (drop place (take (s .course .station .setcount) (s .course .run .sets)))
+            ≡ (if ltb place 8 then setLine (suc place) (getD (s .course .run .sets) place (fresh Off)) else []) ++ setLines (min (suc place) 8) (drop (min (suc place) 8) (take (s .course .station .setcount) (s .course .run .sets)))
         one-more =
             let m : min (suc place) 8 ≡ suc place = omega arith in
-            ap (setLines place) (from-place (s .run .sets) (s .station .setcount) place exists (omega (arith, sets-length)))
-            ∙ set-lines-step place (getD (s .run .sets) place (fresh Off)) (drop (suc place) (take (s .station .setcount) (s .run .sets)))
+            ap (setLines place) (from-place (s .course .run .sets) (s .course .station .setcount) place exists (omega (arith, sets-length)))
+            ∙ set-lines-step place (getD (s .course .run .sets) place (fresh Off)) (drop (suc place) (take (s .course .station .setcount) (s .course .run .sets)))
             ∙ rw (lt-ltb place 8 small, m)
 
-    pub sets-over-turn : length (take (s .station .setcount) (s .run .sets)) ≤ place → Moved t chunk ended out (record { simulation = withPhase s Phase.Over; next = t .next; written = t .written; wants = Wants.Further }) out
+    pub sets-over-turn : length (take (s .course .station .setcount) (s .course .run .sets)) ≤ place → Moved t chunk ended out (record { simulation = withPhase s Phase.Over; next = t .next; written = t .written; wants = Wants.Further }) out
     unfolding textOf setLines
     sets-over-turn past =
         let lighter : weight (withPhase s Phase.Over) < weight s = let a = ap rank e in omega (arith, a) in
         quiet t chunk ended out (withPhase s Phase.Over) (t .next) Wants.Further refl
-        (λ xs l. rw (e, drop-of-length-le (take (s .station .setcount) (s .run .sets)) past))
+        (λ xs l. rw (e, drop-of-length-le (take (s .course .station .setcount) (s .course .run .sets)) past))
         (λ rest h xs c. subst (λ (p : Phase). ComesIn p s (drop (t .next) chunk ++ rest) xs) e c)
         at-in (omega arith) out-in (omega (arith, lighter)) lighter
 
-    pub few-sets : min (s .station .setcount) 8 ≤ place → length (take (s .station .setcount) (s .run .sets)) ≤ place
-    few-sets past = omega (arith, length-take (s .station .setcount) (s .run .sets), sets-length)
+    pub few-sets : min (s .course .station .setcount) 8 ≤ place → length (take (s .course .station .setcount) (s .course .run .sets)) ≤ place
+    few-sets past = omega (arith, length-take (s .course .station .setcount) (s .course .run .sets), sets-length)

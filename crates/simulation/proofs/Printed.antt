@@ -1,9 +1,7 @@
 -- What a run that begins prints is what document 01's definition of the run program prints. Assumes nothing.
-use Prim.Native.Nat.{ℕ, zero, suc, _+_}
+use Prim.Native.Nat.{ℕ, zero, suc}
 use mathlib.Core.Path.{_≡_, refl, sym, ap, _∙_, subst}
-use mathlib.Core.Bool.{true}
-use mathlib.Core.List.{List, [], _∷_, _++_, append-assoc}
-use native.Mathlib.Omega.{arith}
+use mathlib.Core.List.{List, [], _++_, append-assoc}
 use native.Mathlib.Numerals.{add-one}
 use Rattle.rules.specs.declared.station.Station.{Station}
 use Rattle.rules.specs.declared.run.Inputs.{Inputs}
@@ -11,31 +9,25 @@ use Rattle.rules.specs.declared.run.Run.{Run}
 use Rattle.rules.specs.declared.samples.Sample.{Sample}
 use Rattle.rules.specs.Answers.{Answer, accepted, refused, _>>=_}
 use Rattle.rules.specs.StationFile.{stationFile}
-use Rattle.rules.specs.StationRecord.{someFileGives}
 use Rattle.rules.specs.SampleFile.{sampleFile, sampleAt, holding, beforeAll}
 use Rattle.rules.specs.RunRecord.{startRecord}
 use Rattle.rules.specs.Row.{rowHeading, rowText, refusalLine}
 use Rattle.rules.specs.Second.{step, recordAfter}
 use Rattle.rules.specs.Run.{inputsOf, rowsFrom, secondsAsked, runOf, shown, printed}
-use Rattle.rules.proofs.Shapes.{tables-of}
-use Rattle.rules.proofs.Start.{start-possible}
-use Rattle.rules.proofs.StationRead.{read-is-right}
-use Rattle.rules.proofs.SampleRows.{RowsRight}
-use Rattle.records.proofs.StartTold.{start-accepted}
+use Rattle.rows.specs.RowLines as lines
 use Rattle.samples.specs.declared.check.Span.{Span}
-use Rattle.samples.specs.ToCome.{placed, RowsRead, fileRows, allRead}
+use Rattle.samples.specs.ToCome.{placed}
 use Rattle.samples.specs.Streamed.{sheetSpan, spanOf}
-use Rattle.samples.specs.Held.{sourceRows, heldFrom}
-use Rattle.samples.proofs.UpToRefused.{answer-all}
-use Rattle.samples.proofs.LineLaws.{file-answer}
-use Rattle.samples.proofs.RowsRight.{start-right, source-rows-right}
+use Rattle.samples.specs.Held.{heldFrom}
+use Rattle.course.specs.declared.state.Course.{Course}
+use Rattle.course.specs.Rows.{rowsOf, runAfter}
+use Rattle.course.proofs.Started.{started-run, started-coming}
 use Rattle.simulation.specs.declared.state.Phase.{Phase}
 use Rattle.simulation.specs.declared.state.Simulation.{Simulation}
-use Rattle.simulation.specs.Rows.{rowTexts, runAfter, setTexts, rowsWith, AllRight, none, more}
+use Rattle.simulation.specs.Rows.{rowTexts, setTexts, rowsWith}
 use Rattle.simulation.specs.Text.{refusedLine, textOf, toPrint}
-use Rattle.simulation.specs.Turns.{inputsAll, Coming, ComesIn, Comes}
+use Rattle.simulation.specs.Turns.{ComesIn, Comes}
 use Rattle.simulation.specs.Begin.{Refuses, Starting, BegunAs}
-use Rattle.simulation.proofs.BeginLaws.{asked-most}
 
 -- ---- "A row holds until the next": the rows of the definition are those of the inputs held
 
@@ -45,18 +37,12 @@ module _ (st : Station) (samples : List Sample) where
   one-more r x = add-one (r .done)
 
   pub rows-held : (n : ℕ) (r : Run) → rowsFrom st samples n r ≡ rowsWith st (heldFrom beforeAll samples (r .done) n) r
-  unfolding rowsFrom sampleAt rowsWith rowTexts runAfter setTexts heldFrom
+  unfolding rowsFrom sampleAt rowsWith lines.textOf rowsOf runAfter setTexts heldFrom
   rows-held zero r = refl
   rows-held (suc n) r =
       let x : Inputs = inputsOf (holding beforeAll samples (r .done)) in
       ap (λ (l : List ℕ). rowText (step st r x .row) ++ l) (rows-held n (step st r x .run) ∙ ap (λ (t : ℕ). rowsWith st (heldFrom beforeAll samples t n) (step st r x .run)) (one-more r x))
       ∙ sym (append-assoc (rowText (step st r x .row)) (rowTexts st (heldFrom beforeAll samples (suc (r .done)) n) (step st r x .run)) (setTexts st (runAfter st (heldFrom beforeAll samples (suc (r .done)) n) (step st r x .run))))
-
--- ---- right rows
-
-rows-right : {rows : List Sample} → RowsRight rows → AllRight (inputsAll rows)
-rows-right RowsRight.none = none
-rows-right (RowsRight.more r rs) = more (record { load-most = r .load; solar-most = r .solar; sheddable-most = r .sheddable; sheddable-load = r .agrees }) (rows-right rs)
 
 -- ---- what a run begins with
 
@@ -71,60 +57,38 @@ unfolding textOf refusedLine
 refusal-starts number place s rest r =
     record {
       inputs = [];
-      come = subst (λ (p : Phase). ComesIn p s rest []) (sym (r .phase-is)) (r .none-left, refl);
+      come = subst (λ (p : Phase). ComesIn p s rest []) (sym (r .phase-is)) (r .nothing .left-is, refl);
       text-is = rw (r .phase-is, r .number-is, r .place-is);
     }
 
 module _ (station samples asked : List ℕ) (st : Station) (rows : List Sample) (n : ℕ) (s : Simulation) (reads : stationFile station ≡ accepted st) (rows-are : placed (sampleFile samples) ≡ accepted rows) (asks : secondsAsked asked ≡ accepted n) (b : Starting st n s) where
-  given : someFileGives st ≡ true
-  given = read-is-right station st reads .0
-
-  run-is : s .run ≡ startRecord st
-  run-is = b .run-is ∙ rw (start-accepted st given)
-
-  done-is : s .run .done ≡ 0
-  unfolding startRecord
-  done-is = ap (λ (r : Run). r .done) run-is
-
-  accepts : sourceRows (s .source) samples ≡ allRead rows
-  accepts = b .rows samples ∙ answer-all (fileRows samples) rows (file-answer samples ∙ rows-are)
+  abbrev c : Course
+  c = s .course
 
   abbrev xs : List Inputs
-  xs = heldFrom (s .source .now) rows (s .run .done) (s .left)
+  xs = heldFrom (c .source .now) rows (c .run .done) (c .left)
 
-  right : AllRight (inputsAll (s .source .now ∷ rows))
-  right =
-      let sr = start-right (s .source) (b .now-is) (b .ahead-is) in
-      more (record { load-most = sr .force .load; solar-most = sr .force .solar; sheddable-most = sr .force .sheddable; sheddable-load = sr .force .agrees }) (rows-right (subst RowsRight (ap (λ (r : RowsRead). r .rows) accepts) (source-rows-right (s .source) samples (sr .ahead))))
+  run-is : c .run ≡ startRecord st
+  run-is = started-run station samples asked st rows n c reads rows-are asks (b .course-is)
 
-  coming : Coming s samples xs
-  coming =
-      record {
-        ready = record {
-          station-given = rw (b .station-is) given;
-          tables = rw (b .station-is) (tables-of (read-is-right station st reads .1));
-          record-possible = rw (b .station-is, run-is) (start-possible st given);
-          in-time = (let most = asked-most asked n (sym asks) in let z = b .left-is in omega (arith, most, z, done-is));
-        };
-        rows = rows;
-        accepts = accepts;
-        right = right;
-        are = refl;
-      }
-
-  same-rows : rowsWith (s .station) xs (s .run) ≡ rowsFrom st rows n (startRecord st)
+  same-rows : rowsWith (c .station) xs (c .run) ≡ rowsFrom st rows n (startRecord st)
   same-rows =
-      ap (λ (x : Station). rowsWith x xs (s .run)) (b .station-is)
-      ∙ ap (λ (x : Sample). rowsWith st (heldFrom x rows (s .run .done) (s .left)) (s .run)) (b .now-is)
-      ∙ ap (λ (x : ℕ). rowsWith st (heldFrom beforeAll rows (s .run .done) x) (s .run)) (b .left-is)
+      ap (λ (x : Station). rowsWith x xs (c .run)) (b .course-is .station-is)
+      ∙ ap (λ (x : Sample). rowsWith st (heldFrom x rows (c .run .done) (c .left)) (c .run)) (b .course-is .now-is)
+      ∙ ap (λ (x : ℕ). rowsWith st (heldFrom beforeAll rows (c .run .done) x) (c .run)) (b .course-is .left-is)
       ∙ ap (λ (x : Run). rowsWith st (heldFrom beforeAll rows (x .done) n) x) run-is ∙ sym (rows-held st rows n (startRecord st))
 
   text : toPrint s xs ≡ rowHeading ++ rowsFrom st rows n (startRecord st)
   unfolding textOf
-  text = ap (λ (p : Phase). textOf p (s .station) (s .run) xs) (b .phase-is) ∙ ap (λ (l : List ℕ). rowHeading ++ l) same-rows
+  text = ap (λ (p : Phase). textOf p (c .station) (c .run) xs) (b .phase-is) ∙ ap (λ (l : List ℕ). rowHeading ++ l) same-rows
 
   run-starts : Starts s samples (rowHeading ++ rowsFrom st rows n (startRecord st))
-  run-starts = record { inputs = xs; come = subst (λ (p : Phase). ComesIn p s samples xs) (sym (b .phase-is)) coming; text-is = text }
+  run-starts =
+      record {
+        inputs = xs;
+        come = subst (λ (p : Phase). ComesIn p s samples xs) (sym (b .phase-is)) (started-coming station samples asked st rows n c reads rows-are asks (b .course-is));
+        text-is = text;
+      }
 
 -- ---- by what the files and the seconds asked come to, in the paper's order
 

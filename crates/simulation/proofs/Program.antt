@@ -7,15 +7,15 @@ use native.Mathlib.Omega.{arith}
 use lib.ListN.{length, take, drop, length-append, drop-of-length-le}
 use Rattle.rules.specs.declared.run.Inputs.{Inputs}
 use Rattle.samples.specs.Chunks.{joined}
+use Rattle.course.proofs.Started.{coming-length}
 use Rattle.simulation.specs.declared.state.Phase.{Phase}
 use Rattle.simulation.specs.declared.state.Simulation.{Simulation}
 use Rattle.simulation.specs.declared.state.Turn.{Turn}
 use Rattle.simulation.specs.declared.state.Wants.{Wants}
 use Rattle.simulation.specs.Text.{textOf, toPrint}
-use Rattle.simulation.specs.Turns.{Coming, ComesIn, Comes, ComesOn, weight, finished}
+use Rattle.simulation.specs.Turns.{ComesIn, Comes, ComesOn, weight, finished}
 use Rattle.simulation.specs.Calls.{Stopped, Called}
 use Rattle.simulation.specs.Program.{first, others, isEnd, leftAt, Calls, Prints, mostCalls, Answered, Whole}
-use Rattle.simulation.proofs.InputsRight.{held-length}
 use Rattle.simulation.proofs.Printed.{Starts}
 
 opposite : {A : Type 0} {b : Bool} → b ≡ true → b ≡ false → A
@@ -39,21 +39,21 @@ more-chunks (chunk ∷ chunks) e = refl
 
 -- ---- the inputs to come are as many as the seconds that are left
 
-by-phase : (p : Phase) (s : Simulation) (rest : List ℕ) (xs : List Inputs) → ComesIn p s rest xs → length xs ≡ s .left
+by-phase : (p : Phase) (s : Simulation) (rest : List ℕ) (xs : List Inputs) → ComesIn p s rest xs → length xs ≡ s .course .left
 by-phase (Phase.Refusal refusal) s rest xs c = ap length (c .1) ∙ sym (c .0)
-by-phase Phase.Heading s rest xs c = ap length (c .are) ∙ held-length (s .source .now) (c .rows) (s .run .done) (s .left)
-by-phase Phase.Seconds s rest xs c = ap length (c .are) ∙ held-length (s .source .now) (c .rows) (s .run .done) (s .left)
+by-phase Phase.Heading s rest xs c = coming-length (s .course) rest xs c
+by-phase Phase.Seconds s rest xs c = coming-length (s .course) rest xs c
 by-phase Phase.SetHeading s rest xs c = ap length (c .1) ∙ sym (c .0)
 by-phase (Phase.SetLine place) s rest xs c = ap length (c .1) ∙ sym (c .0)
 by-phase Phase.Over s rest xs c = ap length (c .1) ∙ sym (c .0)
 by-phase Phase.Broken s rest xs c = absurd c
 
-comes-length : (s : Simulation) (rest : List ℕ) (xs : List Inputs) → Comes s rest xs → length xs ≡ s .left
+comes-length : (s : Simulation) (rest : List ℕ) (xs : List Inputs) → Comes s rest xs → length xs ≡ s .course .left
 comes-length s rest xs c = by-phase (s .phase) s rest xs c
 
 -- ---- what a call hands over
 
-over-by : (p : Phase) (s : Simulation) (rest : List ℕ) (xs : List Inputs) → finished p ≡ true → ComesIn p s rest xs → textOf p (s .station) (s .run) xs ≡ []
+over-by : (p : Phase) (s : Simulation) (rest : List ℕ) (xs : List Inputs) → finished p ≡ true → ComesIn p s rest xs → textOf p (s .course .station) (s .course .run) xs ≡ []
 unfolding textOf
 over-by (Phase.Refusal refusal) s rest xs f c = absurd (let z : _≡_ {A = ℕ} 0 1 = cc f in omega arith)
 over-by Phase.Heading s rest xs f c = absurd (let z : _≡_ {A = ℕ} 0 1 = cc f in omega arith)
@@ -134,8 +134,8 @@ calls-print {s} {last} {n} {chunks} {out} {text} b calls =
 
 record Some (s : Simulation) (out : List ℕ) (last : Simulation) : Type 0 where
   worked : List Inputs
-  left-is : length worked + last .left ≡ s .left
-  text : (xs : List Inputs) → length xs ≡ last .left → toPrint s (worked ++ xs) ≡ out ++ toPrint last xs
+  left-is : length worked + last .course .left ≡ s .course .left
+  text : (xs : List Inputs) → length xs ≡ last .course .left → toPrint s (worked ++ xs) ≡ out ++ toPrint last xs
 
 call-some : (s : Simulation) (chunk : List ℕ) (at : ℕ) (ended : Bool) (lent : List ℕ) (r : Turn) (left : List ℕ) → Called s chunk at ended lent r left → (out : List ℕ) (last : Simulation) → Some (r .simulation) out last → Some s (take (r .written) left ++ out) last
 call-some s chunk at ended lent r left c out last h =
@@ -144,7 +144,7 @@ call-some s chunk at ended lent r left c out last h =
       left-is = (let z = length-append (c .worked) (h .worked) in omega (arith, z, c .left-is, h .left-is));
       text = λ xs l.
           ap (toPrint s) (append-assoc (c .worked) (h .worked) xs)
-          ∙ c .text (h .worked ++ xs) (length-append (h .worked) xs ∙ (let z : length (h .worked) + length xs ≡ r .simulation .left = omega (arith, h .left-is, l) in z))
+          ∙ c .text (h .worked ++ xs) (length-append (h .worked) xs ∙ (let z : length (h .worked) + length xs ≡ r .simulation .course .left = omega (arith, h .left-is, l) in z))
           ∙ ap (λ (x : List ℕ). take (r .written) left ++ x) (h .text xs l) ∙ sym (append-assoc (take (r .written) left) out (toPrint last xs));
     }
 
@@ -161,7 +161,7 @@ some-handed {s} {at = at} {chunks = chunks} (Calls.over r lent left c roomy w) =
 -- the inputs, one for each second asked, and the text with them
 pub record OfSome (s : Simulation) (out : List ℕ) : Type 0 where
   pub inputs : List Inputs
-  pub as-many : length inputs ≡ s .left
+  pub as-many : length inputs ≡ s .course .left
   pub later : List ℕ
   pub begins : toPrint s inputs ≡ out ++ later
 
@@ -169,10 +169,10 @@ pub some-inputs : {s last : Simulation} {at n : ℕ} {chunks : List (List ℕ)} 
 some-inputs {s} {last} calls =
     let h = some-handed calls in
     record {
-      inputs = h .worked ++ dark (last .left);
-      as-many = length-append (h .worked) (dark (last .left)) ∙ (let z = dark-length (last .left) in let e : length (h .worked) + length (dark (last .left)) ≡ s .left = omega (arith, z, h .left-is) in e);
-      later = toPrint last (dark (last .left));
-      begins = h .text (dark (last .left)) (dark-length (last .left));
+      inputs = h .worked ++ dark (last .course .left);
+      as-many = length-append (h .worked) (dark (last .course .left)) ∙ (let z = dark-length (last .course .left) in let e : length (h .worked) + length (dark (last .course .left)) ≡ s .course .left = omega (arith, z, h .left-is) in e);
+      later = toPrint last (dark (last .course .left));
+      begins = h .text (dark (last .course .left)) (dark-length (last .course .left));
     }
   where
     dark : ℕ → List Inputs

@@ -1,23 +1,25 @@
 -- A turn leaves what was handed over and what is still to come as it was: a phase's line, the seconds, the waits. Assumes nothing.
-use Prim.Native.Nat.{ℕ, zero, suc, _+_, _-_, _*_, _≤_, _<_, min}
+use Prim.Native.Nat.{ℕ, _+_, _-_, _≤_, min}
 use mathlib.Core.Path.{_≡_, refl, sym, ap, _∙_}
-use mathlib.Core.Bool.{Bool, true, false}
-use mathlib.Core.List.{List, [], _∷_, _++_, append-nil, append-assoc}
+use mathlib.Core.Bool.{Bool, true}
+use mathlib.Core.List.{List, [], _∷_, _++_, append-assoc}
 use native.Mathlib.Omega.{arith}
-use lib.ListN.{length, take, drop, length-append, length-take, length-drop, take-append-drop}
+use lib.ListN.{length, take, drop, length-append, length-take, length-drop}
 use lib.Seq.{take-at, drop-at, drop-drop}
 use Rattle.rules.specs.declared.station.Station.{Station}
 use Rattle.rules.specs.declared.run.Inputs.{Inputs}
 use Rattle.rules.specs.declared.run.Run.{Run}
+use Rattle.rules.specs.declared.run.Row.{Row}
 use Rattle.rules.specs.Row.{rowText}
-use Rattle.rules.specs.Second.{step}
-use Rattle.simulation.specs.declared.state.Phase.{Phase}
+use Rattle.rows.specs.RowLines as lines
+use Rattle.course.specs.Rows.{rowsOf, runAfter}
+use Rattle.course.proofs.RowLaws.{rows-split, run-split}
 use Rattle.simulation.specs.declared.state.Simulation.{Simulation}
 use Rattle.simulation.specs.declared.state.Turn.{Turn}
 use Rattle.simulation.specs.declared.state.Wants.{Wants}
-use Rattle.simulation.specs.Rows.{rowTexts, runAfter, setTexts, rowsWith}
-use Rattle.simulation.specs.Text.{textOf, toPrint, withPhase}
-use Rattle.simulation.specs.Turns.{Coming, Comes, ComesOn, rank, weight, finished, Ended, Moved, waitingFor, putAt}
+use Rattle.simulation.specs.Rows.{rowTexts, setTexts, rowsWith}
+use Rattle.simulation.specs.Text.{textOf, toPrint}
+use Rattle.simulation.specs.Turns.{Comes, weight, Ended, Moved, putAt}
 
 -- ---- a text in a buffer
 
@@ -46,33 +48,29 @@ module _ (out text : List ℕ) (at : ℕ) (h : at + length text ≤ length out) 
 
 -- ---- rows of some seconds and then of others
 
-pub rows-split : (st : Station) (xs ys : List Inputs) (r : Run) → rowTexts st (xs ++ ys) r ≡ rowTexts st xs r ++ rowTexts st ys (runAfter st xs r)
-unfolding rowTexts runAfter
-rows-split st [] ys r = refl
-rows-split st (x ∷ xs) ys r =
-    let s = step st r x in
-    ap (λ (l : List ℕ). rowText (s .row) ++ l) (rows-split st xs ys (s .run)) ∙ sym (append-assoc (rowText (s .row)) (rowTexts st xs (s .run)) (rowTexts st ys (runAfter st xs (s .run))))
+text-split : (xs ys : List Row) → lines.textOf (xs ++ ys) ≡ lines.textOf xs ++ lines.textOf ys
+unfolding lines.textOf
+text-split [] ys = refl
+text-split (x ∷ xs) ys = ap (λ (l : List ℕ). rowText x ++ l) (text-split xs ys) ∙ sym (append-assoc (rowText x) (lines.textOf xs) (lines.textOf ys))
 
-pub run-split : (st : Station) (xs ys : List Inputs) (r : Run) → runAfter st (xs ++ ys) r ≡ runAfter st ys (runAfter st xs r)
-unfolding runAfter
-run-split st [] ys r = refl
-run-split st (x ∷ xs) ys r = run-split st xs ys (step st r x .run)
+texts-split : (st : Station) (xs ys : List Inputs) (r : Run) → rowTexts st (xs ++ ys) r ≡ rowTexts st xs r ++ rowTexts st ys (runAfter st xs r)
+texts-split st xs ys r = ap lines.textOf (rows-split st xs ys r) ∙ text-split (rowsOf st xs r) (rowsOf st ys (runAfter st xs r))
 
 pub with-split : (st : Station) (xs ys : List Inputs) (r : Run) → rowsWith st (xs ++ ys) r ≡ rowTexts st xs r ++ rowsWith st ys (runAfter st xs r)
 unfolding rowsWith
 with-split st xs ys r =
-    rw (rows-split st xs ys r, run-split st xs ys r) (append-assoc (rowTexts st xs r) (rowTexts st ys (runAfter st xs r)) (setTexts st (runAfter st ys (runAfter st xs r))))
+    rw (texts-split st xs ys r, run-split st xs ys r) (append-assoc (rowTexts st xs r) (rowTexts st ys (runAfter st xs r)) (setTexts st (runAfter st ys (runAfter st xs r))))
 
 pub with-none : (st : Station) (r : Run) → rowsWith st [] r ≡ setTexts st r
-unfolding rowsWith rowTexts runAfter
+unfolding rowsWith lines.textOf rowsOf runAfter
 with-none st r = refl
 
 -- ---- turns that hand nothing over
 
 -- the run is as it was, but in its phase and source; `next` may have moved
 module _ (t : Turn) (chunk : List ℕ) (ended : Bool) (out : List ℕ) (s : Simulation) (next : ℕ) (wants : Wants)
-    (left-same : s .left ≡ t .simulation .left)
-    (text-same : (xs : List Inputs) → length xs ≡ s .left → toPrint (t .simulation) xs ≡ toPrint s xs)
+    (left-same : s .course .left ≡ t .simulation .course .left)
+    (text-same : (xs : List Inputs) → length xs ≡ s .course .left → toPrint (t .simulation) xs ≡ toPrint s xs)
     (comes : (rest : List ℕ) → (ended ≡ true → rest ≡ []) → (xs : List Inputs) → Comes (t .simulation) (drop (t .next) chunk ++ rest) xs → Comes s (drop next chunk ++ rest) xs)
     (within : next ≤ length chunk) (onward : t .next ≤ next) (fits : t .written ≤ length out) (less : weight s ≤ weight (t .simulation)) where
   abbrev after : Turn
@@ -92,5 +90,6 @@ module _ (t : Turn) (chunk : List ℕ) (ended : Bool) (out : List ℕ) (s : Simu
         size = refl;
         kept = refl;
         less = less;
+        small = λ h. refl;
         wants = e;
       }

@@ -2,7 +2,7 @@
 use Prim.Native.Nat.{ℕ, _+_, _≤_, _<_}
 use mathlib.Core.Path.{_≡_}
 use mathlib.Core.Bool.{Bool, true, false}
-use mathlib.Core.List.{List, [], _∷_, _++_}
+use mathlib.Core.List.{List, [], _++_}
 use lib.ListN.{length, take, drop}
 use Rattle.rules.specs.declared.run.Inputs.{Inputs}
 use Rattle.simulation.specs.declared.state.Simulation.{Simulation}
@@ -29,9 +29,9 @@ Stopped Wants.Nothing s chunk ended out r = finished (r .simulation .phase) ≡ 
 pub record Called (s : Simulation) (chunk : List ℕ) (at : ℕ) (ended : Bool) (out : List ℕ) (r : Turn) (out′ : List ℕ) : Type 0 where
   -- the seconds worked
   pub worked : List Inputs
-  pub left-is : length worked + r .simulation .left ≡ s .left
+  pub left-is : length worked + r .simulation .course .left ≡ s .course .left
   -- what is handed over, and then what is still to come: whatever inputs the other seconds get
-  pub text : (xs : List Inputs) → length xs ≡ r .simulation .left → toPrint s (worked ++ xs) ≡ take (r .written) out′ ++ toPrint (r .simulation) xs
+  pub text : (xs : List Inputs) → length xs ≡ r .simulation .course .left → toPrint s (worked ++ xs) ≡ take (r .written) out′ ++ toPrint (r .simulation) xs
   -- and those are the ones that an accepted sample file gives
   pub inputs : (rest : List ℕ) → (ended ≡ true → rest ≡ []) → (xs : List Inputs) → Comes s (drop at chunk ++ rest) xs
       → ComesOn worked xs (r .simulation) (drop (r .next) chunk ++ rest)
@@ -40,4 +40,6 @@ pub record Called (s : Simulation) (chunk : List ℕ) (at : ℕ) (ended : Bool) 
   -- the buffer's other bytes stay
   pub kept : drop (r .written) out′ ≡ drop (r .written) out
   pub less : weight (r .simulation) ≤ weight s
+  -- a buffer that is too small for a line gets nothing
+  pub small : length out < 256 → r .written ≡ 0
   pub wants : Stopped (r .wants) s chunk ended out r

@@ -1,8 +1,7 @@
 -- Document 01, what the run program prints, by what is still to come: the text that a run in a phase has yet to hand over.
-use Prim.Native.Nat.{ℕ, suc, _+_, _-_, min}
-use mathlib.Core.Bool.{Bool, true, false}
-use mathlib.Core.List.{List, [], _∷_, _++_}
-use lib.ListN.{length, take, drop}
+use Prim.Native.Nat.{ℕ, suc, _+_, min}
+use mathlib.Core.List.{List, [], _++_}
+use lib.ListN.{take, drop}
 use lib.Dec.{ltb}
 use Rattle.rules.specs.declared.answers.Refusal.{Refusal}
 use Rattle.rules.specs.declared.station.Station.{Station}
@@ -13,7 +12,6 @@ use Rattle.rules.specs.Numbers.{if_then_else_}
 use Rattle.rules.specs.Answers.{numberAndPlace}
 use Rattle.rules.specs.Modes.{stateAt}
 use Rattle.rules.specs.Row.{rowHeading, setHeading, setLines, refusalLine}
-use Rattle.samples.specs.declared.inputs.InputSource.{InputSource}
 use Rattle.rows.specs.SetLine.{setLine}
 use Rattle.simulation.specs.declared.state.Phase.{Phase}
 use Rattle.simulation.specs.declared.state.Simulation.{Simulation}
@@ -35,7 +33,7 @@ textOf Phase.Over st r xs = []
 textOf Phase.Broken st r xs = rowsWith st xs r
 
 abbrev pub toPrint : Simulation → List Inputs → List ℕ
-toPrint s xs = textOf (s .phase) (s .station) (s .run) xs
+toPrint s xs = textOf (s .phase) (s .course .station) (s .course .run) xs
 
 -- ---- line by line
 
@@ -65,10 +63,4 @@ phaseAfter Phase.Broken = Phase.Broken
 -- ---- a run of which one thing changed
 
 abbrev pub withPhase : Simulation → Phase → Simulation
-withPhase s phase = record { phase = phase; station = s .station; run = s .run; source = s .source; left = s .left }
-
-abbrev pub withSource : Simulation → InputSource → Simulation
-withSource s source = record { phase = s .phase; station = s .station; run = s .run; source = source; left = s .left }
-
-abbrev pub withWorked : Simulation → Phase → InputSource → Run → ℕ → Simulation
-withWorked s phase source r left = record { phase = phase; station = s .station; run = r; source = source; left = left }
+withPhase s phase = record { phase = phase; course = s .course }

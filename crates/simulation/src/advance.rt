@@ -1,11 +1,11 @@
 // THE CALL of a run: some of the sample file in, some of the text out.
 ghost use mathlib.Core.Path.{_≡_};
 ghost use Rattle.simulation.specs.Calls.{goesOn, Called};
-use crate::seconds_turn::lesser;
 use crate::state::Simulation;
 use crate::state::Turn;
 use crate::state::Wants;
 use crate::turn::turn;
+use words::arithmetic::lesser;
 
 fn goes_on(wants: Wants) -> bool
     ensures { λ r. ⌜ r ≡ goesOn wants ⌝ }

@@ -1,5 +1,5 @@
-// The run between the bytes that are read and the bytes to be written: a machine by value, of three pieces: the source of each second's
-// inputs (`samples::inputs`), the second (`dispatch::seconds`), and the sink of its lines (`rows`).
+// The plain run's text: the course of a run between the bytes that are read and the bytes to be written, its rows and other lines in a
+// lent buffer.
 pub mod advance;
 pub mod begin;
 mod line_turn;

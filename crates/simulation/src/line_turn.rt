@@ -10,6 +10,7 @@ use crate::state::Phase;
 use crate::state::Simulation;
 use crate::state::Turn;
 use crate::state::Wants;
+use course::state::set_states;
 use rows::run_lines::put_refusal;
 use rows::run_lines::put_row_heading;
 use rows::run_lines::put_set_heading;
@@ -92,16 +93,8 @@ fn phase_after(phase: Phase) -> Phase
 pub(crate) fn with_phase(simulation: Simulation, phase: Phase) -> Simulation
     ensures { λ r. ⌜ r ≡ withPhase simulation phase ⌝ }
 {
-    let station = simulation.station;
-    let run = simulation.run;
-    let source = simulation.source;
-    Simulation {
-        phase,
-        station,
-        run,
-        source,
-        left: simulation.left,
-    }
+    let course = simulation.course;
+    Simulation { phase, course }
 }
 
 // A turn that hands nothing over and ends for this.
@@ -124,8 +117,8 @@ pub(crate) fn line_turn(t: Turn, out: &mut [u8]) -> Turn
 {
     let simulation = t.simulation;
     let phase = simulation.phase;
-    let run = simulation.run;
-    let states = run.sets;
+    let course = simulation.course;
+    let states = set_states(course);
     let at = t.written;
     let answer = put_line_of(phase, states, &mut out[at..]);
     match answer {

@@ -1,9 +1,8 @@
 // The state of a run between two calls, by value.
 ghost use mathlib.Core.Path.{_≡_};
+use course::state::Course;
+use course::state::seconds_to_work;
 use rules::answers::Refusal;
-use rules::run::Run;
-use rules::station::Station;
-use samples::inputs::InputSource;
 
 // What is to be handed over next.
 pub enum Phase {
@@ -24,11 +23,7 @@ pub enum Phase {
 
 pub struct Simulation {
     pub(crate) phase: Phase,
-    pub(crate) station: Station,
-    pub(crate) run: Run,
-    pub(crate) source: InputSource,
-    // seconds still to be worked
-    pub(crate) left: u32,
+    pub(crate) course: Course,
 }
 
 // What a call ended for.
@@ -61,7 +56,8 @@ pub fn phase_of(simulation: Simulation) -> Phase
 
 // How many seconds are still to be worked.
 pub fn seconds_left(simulation: Simulation) -> u32
-    ensures { λ r. ⌜ r ≡ simulation .left ⌝ }
+    ensures { λ r. ⌜ r ≡ simulation .course .left ⌝ }
 {
-    simulation.left
+    let course = simulation.course;
+    seconds_to_work(course)
 }

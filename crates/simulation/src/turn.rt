@@ -11,12 +11,13 @@ ghost use Rattle.simulation.specs.Turns.{Moved};
 use crate::line_turn::line_turn;
 use crate::line_turn::waiting;
 use crate::line_turn::with_phase;
-use crate::seconds_turn::lesser;
 use crate::seconds_turn::seconds_turn;
 use crate::state::Phase;
 use crate::state::Turn;
 use crate::state::Wants;
+use course::state::set_count;
 use rules::limits::MOST_SETS;
+use words::arithmetic::lesser;
 
 // The rest of the file is passed by, so that whoever reads it sees all of its bytes.
 fn passed_by(t: Turn, end: usize) -> Turn
@@ -49,8 +50,8 @@ fn set_turn(t: Turn, place: usize, out: &mut [u8]) -> Turn
     ensures { λ r. ⌜ ((chunk : List ℕ) (ended : Bool) → t .next ≤ length chunk → Moved t chunk ended (now (out .entry)) r (now (out .exit))) ⌝ }
 {
     let simulation = t.simulation;
-    let station = simulation.station;
-    let existing = lesser(station.setcount, MOST_SETS);
+    let course = simulation.course;
+    let existing = lesser(set_count(course), MOST_SETS);
     if place < existing {
         return line_turn(t, out);
     }

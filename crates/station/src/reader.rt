@@ -18,7 +18,7 @@ pub struct Reading {
     pub station: Station,
 }
 
-fn no_station() -> Station
+pub fn no_station() -> Station
     ensures { λ r. ⌜ r ≡ noStation ⌝ }
 {
     let control = Control {

@@ -1,74 +1,28 @@
 -- `begin` meets its contract. Assumes nothing.
-use mathlib.Core.Path.{ap}
 use mathlib.Core.List.{[]}
 use denote.Ref.{now}
 use Rattle.rules.specs.Run.{secondsAsked}
 use Rattle.intake.specs.Stations.{stationWith}
 use Rattle.samples.specs.Streamed.{checkedOf}
-use Rattle.simulation.proofs.BeginLaws.{station-refused, samples-refused, all-accepted}
+use Rattle.simulation.proofs.BeginLaws.{begun-accepted, begun-refused}
 use borrow.Author.Needs.{needs}
 use Rattle.simulation.proofs.begin.begin.Statement.{statement}
 use Rattle.simulation.proofs.begin.begin.Tie as tie
-use Rattle.simulation.proofs.begin.begin.Reads as reads
-use Rattle.simulation.proofs.begin.begin.Lts as lts
-use Rattle.intake.proofs.station_bytes.station_of.Reads as station-of-reads
-use Rattle.simulation.proofs.begin.asked_for.Reads as asked-for-reads
-use Rattle.simulation.proofs.begin.refused.Reads as refused-reads
 
--- src/begin.rt:70:9
-station-of-requires : tie.Need-station-of-requires
-station-of-requires c κs = search needs
-
--- src/begin.rt:73:29
-enum-known-verdict : tie.Need-enum-known-verdict
-enum-known-verdict c = search needs
-
--- src/begin.rt:74:9
-refused-requires : tie.Need-refused-requires
-refused-requires c κs = search needs
-
--- src/begin.rt:74:9
-returns : tie.Need-returns
-returns c = station-refused (c .refused .result) (stationWith (c .before .before .before .before .before .before .before .args .file) []) (checkedOf (c .before .before .before .before .before .before .before .args .checked)) (secondsAsked (now (c .before .before .before .before .before .before .before .args .asked))) (c .before .before .verdict .given .0 .0) (rw (c .before .before .verdict .given .1) at (c .before .before .before .before .before .station-of .ensures .0)) (c .refused .ensures)
+course-of-requires : tie.Need-course-of-requires
+course-of-requires c κs = search needs
 
 enum-told : tie.Need-enum-told
 enum-told c = search needs
 
--- src/begin.rt:76:29
-enum-known-checked : tie.Need-enum-known-checked
-enum-known-checked c = search needs
+enum-known-verdict : tie.Need-enum-known-verdict
+enum-known-verdict c = search needs
 
--- src/begin.rt:77:9
-refused-requires-2 : tie.Need-refused-requires-2
-refused-requires-2 c κs = search needs
+returns : tie.Need-returns
+returns c = begun-accepted (c .before .before .before .course-of .result) (stationWith (c .before .before .before .before .before .args .file) []) (checkedOf (c .before .before .before .before .before .args .checked)) (secondsAsked (now (c .before .before .before .before .before .args .asked))) (c .enum-told .given .1) (c .before .before .before .course-of .ensures)
 
--- src/begin.rt:77:9
 returns-2 : tie.Need-returns-2
-returns-2 c = samples-refused (c .refused2 .result) (stationWith (c .before .before .before .before .before .before .before .before .before .args .file) []) (checkedOf (c .before .before .before .before .before .before .before .before .before .args .checked)) (secondsAsked (now (c .before .before .before .before .before .before .before .before .before .args .asked))) (c .before .before .checked .given .0 .0) (rw (c .before .before .before .before .enum-told .given .1) at (c .before .before .before .before .before .before .before .station-of .ensures .0)) (ap checkedOf (c .before .before .checked .given .1)) (c .refused2 .ensures)
-
-enum-told-2 : tie.Need-enum-told-2
-enum-told-2 c = search needs
-
--- src/begin.rt:79:5
-asked-for-requires : tie.Need-asked-for-requires
-asked-for-requires c κs = search needs
-
--- src/begin.rt:67:1
-returns-3 : tie.Need-returns-3
-returns-3 c = all-accepted (c .asked-for .result) (stationWith (c .before .before .before .before .before .before .before .before .args .file) []) (checkedOf (c .before .before .before .before .before .before .before .before .args .checked)) (secondsAsked (now (c .before .before .before .before .before .before .before .before .args .asked))) (c .before .before .before .before .before .before .station-of .result .station) _ (rw (c .before .before .before .enum-told .given .1) at (c .before .before .before .before .before .before .station-of .ensures .0)) (c .before .before .before .before .before .before .station-of .ensures .1) (ap checkedOf (c .before .enum-told2 .given .1)) (c .asked-for .ensures)
+returns-2 c = begun-refused (c .before .before .before .before .course-of .result) (stationWith (c .before .before .before .before .before .before .args .file) []) (checkedOf (c .before .before .before .before .before .before .args .checked)) (secondsAsked (now (c .before .before .before .before .before .before .args .asked))) (c .before .verdict .given .0 .0) (c .before .verdict .given .1) (c .before .before .before .before .course-of .ensures)
 
 pub begin-spec : {M : Type 1} → statement M
-begin-spec =
-    tie.close
-    (tie.spec
-    station-of-requires
-    enum-known-verdict
-    refused-requires
-    returns
-    enum-told
-    enum-known-checked
-    refused-requires-2
-    returns-2
-    enum-told-2
-    asked-for-requires
-    returns-3)
+begin-spec = tie.close (tie.spec course-of-requires enum-told enum-known-verdict returns returns-2)

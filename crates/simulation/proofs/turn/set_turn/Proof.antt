@@ -10,46 +10,44 @@ use Rattle.simulation.proofs.turn.set_turn.Tie as tie
 use Rattle.simulation.proofs.turn.set_turn.Reads as reads
 use Rattle.simulation.proofs.turn.set_turn.Lts as lts
 use Rattle.simulation.proofs.line_turn.line_turn.Reads as line-turn-reads
-use Rattle.simulation.proofs.seconds_turn.lesser.Reads as lesser-reads
 use Rattle.simulation.proofs.turn.all_over.Reads as all-over-reads
 
 -- the record's sets are eight
-eight : (c : tie.Start) → length (c .args .t .simulation .run .sets) ≡ 8
-eight c = simp length-map at (c .good .0 .1 .1 .0 .1 .1 .1 .1 .0 .1 .1 .1 .1 .1 .1 .1 .0 .1 .0 .1)
+eight : (c : tie.Start) → length (c .args .t .simulation .course .run .sets) ≡ 8
+eight c = simp length-map at (c .good .0 .1 .1 .0 .1 .1 .1 .0 .1 .1 .1 .0 .1 .1 .1 .1 .1 .1 .1 .0 .1 .0 .1)
 
--- src/turn.rt:52:9
+set-count-requires : tie.Need-set-count-requires
+set-count-requires c κs = search needs
+
 lesser-requires : tie.Need-lesser-requires
 lesser-requires c κs = search needs
 
--- src/turn.rt:54:9
 line-turn-requires : tie.Need-line-turn-requires
 line-turn-requires c κs = search needs
 
--- src/turn.rt:54:9
 same-length : tie.Need-same-length
 same-length c = search needs
 
--- src/turn.rt:54:9
 returns : tie.Need-returns
 returns c =
-    let start = c .before .before .before .before .before .before .before .before .before in
+    let start = c .before .before .before .before .before .before .before .before .before .before in
     let few = c .before .before .before .before .before .lesser .ensures in
+    let count = c .before .before .before .before .before .before .set-count .ensures in
     let test = c .before .before .before .before .if1 .taken in
-    λ chunk ended at-in. set-line-turn (start .args .t) chunk ended (now (start .args .out)) at-in (start .pre .1) (start .args .place) (start .pre .0) (eight start) (omega (arith, few, test)) (omega (arith, few, test)) _ _ (c .before .before .line-turn .ensures)
+    λ chunk ended at-in. set-line-turn (start .args .t) chunk ended (now (start .args .out)) at-in (start .pre .1) (start .args .place) (start .pre .0) (eight start) (omega (arith, few, count, test)) (omega (arith, few, count, test)) _ _ (c .before .before .line-turn .ensures)
 
--- src/turn.rt:56:5
 all-over-requires : tie.Need-all-over-requires
 all-over-requires c κs = search needs
 
--- src/turn.rt:46:1
 returns-2 : tie.Need-returns-2
 returns-2 c =
-    let start = c .before .before .before .before .before .before in
+    let start = c .before .before .before .before .before .before .before in
     let few = c .before .before .lesser .ensures in
+    let count = c .before .before .before .set-count .ensures in
     let test = c .before .if1 .left in
-    λ chunk ended at-in. rw (c .all-over .ensures) (sets-over-turn (start .args .t) chunk ended (now (start .args .out)) at-in (start .pre .1) (start .args .place) (start .pre .0) (eight start) (few-sets (start .args .t) chunk ended (now (start .args .out)) at-in (start .pre .1) (start .args .place) (start .pre .0) (eight start) (omega (arith, few, test))))
+    λ chunk ended at-in. rw (c .all-over .ensures) (sets-over-turn (start .args .t) chunk ended (now (start .args .out)) at-in (start .pre .1) (start .args .place) (start .pre .0) (eight start) (few-sets (start .args .t) chunk ended (now (start .args .out)) at-in (start .pre .1) (start .args .place) (start .pre .0) (eight start) (omega (arith, few, count, test))))
 
 pub set-turn-spec : {M : Type 1} → statement M
 set-turn-spec =
     tie.close
-    (tie.spec lesser-requires line-turn-requires same-length returns all-over-requires returns-2)
+    (tie.spec set-count-requires lesser-requires line-turn-requires same-length returns all-over-requires returns-2)

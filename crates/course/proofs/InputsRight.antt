@@ -1,21 +1,19 @@
 -- What a second is handed of right rows is right. Assumes nothing.
-use Prim.Native.Nat.{ℕ, zero, suc, _+_, _≤_, min}
-use mathlib.Core.Path.{_≡_, refl, sym, ap, _∙_}
+use Prim.Native.Nat.{ℕ, zero, suc, _≤_}
+use mathlib.Core.Path.{_≡_, refl, ap}
 use mathlib.Core.Bool.{Bool, true, false}
 use mathlib.Core.List.{List, [], _∷_, _++_}
 use native.Mathlib.Omega.{arith}
 use lib.Dec.{leb}
-use lib.ListN.{length, take, drop, length-take}
+use lib.ListN.{length, drop}
 use Rattle.rules.specs.declared.run.Inputs.{Inputs}
 use Rattle.rules.specs.declared.samples.Sample.{Sample}
 use Rattle.rules.specs.Numbers.{if_then_else_}
 use Rattle.rules.specs.SampleFile.{holding}
 use Rattle.rules.specs.Run.{inputsOf}
 use Rattle.samples.specs.Held.{heldFrom, inputsIn}
-use Rattle.dispatch.specs.Seconds as seconds
-use Rattle.dispatch.proofs.Going.{inputs-length}
-use Rattle.simulation.specs.Rows.{Right, AllRight, none, more}
-use Rattle.simulation.specs.Turns.{inputsAll}
+use Rattle.course.specs.Rows.{Right, AllRight, none, more}
+use Rattle.course.specs.Coming.{inputsAll}
 
 -- the row in force at a second
 holding-right : (now : Sample) (rows : List Sample) (t : ℕ) → AllRight (inputsAll (now ∷ rows)) → Right (inputsOf (holding now rows t))
@@ -41,19 +39,14 @@ drop-right zero rows right = right
 drop-right (suc k) [] right = right
 drop-right (suc k) (x ∷ rows) (more right rights) = drop-right k rows rights
 
--- the first places of three lists are the inputs of their first parts
-pub inputs-in : (n : ℕ) (loads solars sheddables : List ℕ) → inputsIn n loads solars sheddables ≡ seconds.inputsOf (take n loads) (take n solars) (take n sheddables)
-unfolding inputsIn seconds.inputsOf
-inputs-in zero loads solars sheddables = refl
-inputs-in (suc n) [] solars sheddables = refl
-inputs-in (suc n) (l ∷ loads) [] sheddables = refl
-inputs-in (suc n) (l ∷ loads) (s ∷ solars) [] = refl
-inputs-in (suc n) (l ∷ loads) (s ∷ solars) (h ∷ sheddables) = ap (λ (xs : List Inputs). record { load = l; solar = s; sheddable = h } ∷ xs) (inputs-in n loads solars sheddables)
-
-pub first-places : (n : ℕ) (loads solars sheddables : List ℕ) → n ≤ length loads → n ≤ length solars → n ≤ length sheddables
-    → length (seconds.inputsOf (take n loads) (take n solars) (take n sheddables)) ≡ n
-first-places n loads solars sheddables a b c =
-    omega (arith, inputs-length (take n loads) (take n solars) (take n sheddables), length-take n loads, length-take n solars, length-take n sheddables)
+-- as many inputs as places
+pub in-length : (n : ℕ) (loads solars sheddables : List ℕ) → n ≤ length loads → n ≤ length solars → n ≤ length sheddables → length (inputsIn n loads solars sheddables) ≡ n
+unfolding inputsIn
+in-length zero loads solars sheddables a b c = refl
+in-length (suc n) [] solars sheddables a b c = absurd (omega arith)
+in-length (suc n) (l ∷ loads) [] sheddables a b c = absurd (omega arith)
+in-length (suc n) (l ∷ loads) (s ∷ solars) [] a b c = absurd (omega arith)
+in-length (suc n) (l ∷ loads) (s ∷ solars) (h ∷ sheddables) a b c = ap suc (in-length n loads solars sheddables (omega arith) (omega arith) (omega arith))
 
 pub held-length : (now : Sample) (rows : List Sample) (t n : ℕ) → length (heldFrom now rows t n) ≡ n
 unfolding heldFrom

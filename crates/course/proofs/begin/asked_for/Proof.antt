@@ -4,42 +4,30 @@ use mathlib.Core.Path.{subst}
 use denote.Ref.{now}
 use Rattle.rules.specs.Answers.{Answer}
 use Rattle.rules.specs.Run.{secondsAsked}
-use Rattle.simulation.specs.Begin.{AskedAs}
-use Rattle.simulation.proofs.BeginLaws.{asked-most, asked-refused}
+use Rattle.course.specs.Begin.{AskedAs}
+use Rattle.course.proofs.BeginLaws.{asked-most, asked-refused}
 use borrow.Author.Needs.{needs}
-use Rattle.simulation.proofs.begin.asked_for.Statement.{statement}
-use Rattle.simulation.proofs.begin.asked_for.Tie as tie
-use Rattle.simulation.proofs.begin.asked_for.Reads as reads
-use Rattle.simulation.proofs.begin.asked_for.Lts as lts
-use Rattle.intake.proofs.asked.seconds_asked.Reads as seconds-asked-reads
-use Rattle.simulation.proofs.begin.refused.Reads as refused-reads
-use Rattle.simulation.proofs.begin.starting.Reads as starting-reads
+use Rattle.course.proofs.begin.asked_for.Statement.{statement}
+use Rattle.course.proofs.begin.asked_for.Tie as tie
 
--- src/begin.rt:59:9
 seconds-asked-requires : tie.Need-seconds-asked-requires
 seconds-asked-requires c κs = search needs
 
--- src/begin.rt:61:23
 enum-known-amount : tie.Need-enum-known-amount
 enum-known-amount c = search needs
 
--- src/begin.rt:61:35
 starting-requires : tie.Need-starting-requires
 starting-requires c κs = asked-most (now (c .before .before .before .before .before .args .asked)) (c .before .amount .given .0 .0) (rw (c .before .amount .given .1) at (c .before .before .before .seconds-asked .ensures))
 
--- src/begin.rt:62:25
 enum-known-amount-2 : tie.Need-enum-known-amount-2
 enum-known-amount-2 c = search needs
 
--- src/begin.rt:62:37
 refused-requires : tie.Need-refused-requires
 refused-requires c κs = search needs
 
--- src/begin.rt:56:1
 returns : tie.Need-returns
 returns c = subst (λ (a : Answer ℕ). AskedAs a (c .before .before .before .before .before .before .args .station) (c .starting .result)) (rw (c .before .before .amount .given .1) at (c .before .before .before .before .seconds-asked .ensures)) (c .starting .ensures)
 
--- src/begin.rt:56:1
 returns-2 : tie.Need-returns-2
 returns-2 c = asked-refused (c .refused .result) (secondsAsked (now (c .before .before .before .before .before .before .args .asked))) (c .before .before .before .before .before .before .args .station) (c .before .before .amount2 .given .0 .0) (rw (c .before .before .amount2 .given .1) at (c .before .before .before .before .seconds-asked .ensures)) (c .refused .ensures)
 

@@ -1,0 +1,8 @@
+-- The seconds worked, their inputs, and what a call and a beginning owe.
+pub mod RowLaws
+pub mod Worked
+pub mod InputsRight
+pub mod HandedOver
+pub mod MoveLaws
+pub mod BeginLaws
+pub mod Started
