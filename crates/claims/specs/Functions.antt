@@ -15,7 +15,7 @@ use Rattle.station.proofs.reader.read_station as read
 use Rattle.records.specs.declared.start.Started.{Started}
 use Rattle.records.proofs.start.start as start
 use Rattle.dispatch.proofs.second.second as second
-use Rattle.dispatch.proofs.seconds.seconds as seconds
+use Rattle.steady.proofs.seconds.seconds as seconds
 use Rattle.claims_rules.specs.Batches.{ManyCall}
 
 -- `station::reader::read_station` was handed a file, and gave g

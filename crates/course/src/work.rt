@@ -8,7 +8,7 @@ ghost use Rattle.course.specs.Moves.{Moves, withSource, waitingFor, halt
 use crate::state::Course;
 use crate::state::Halt;
 use crate::state::Moved;
-use dispatch::seconds::seconds;
+use steady::seconds::seconds;
 use rules::answers::Ended;
 use samples::inputs::InputSource;
 use samples::inputs::end_inputs;
