@@ -38,10 +38,10 @@ use Rattle.dispatch.proofs.Ruled.{stepOf, stepped-is, watts-ruled, ran-ruled, r
 use Rattle.dispatch.proofs.StepsTaken.{watts-in, stepped-by}
 use Rattle.steady.specs.declared.steady_step.Gone.{Gone}
 use Rattle.steady.specs.declared.steady_step.Steady.{Steady}
-use Rattle.steady.specs.declared.steady_step.Stretch.{Stretch}
+use Rattle.steady.specs.declared.steady_step.Standing.{Standing}
 use Rattle.steady.specs.NextEvent.{NoEvent}
 use Rattle.steady.specs.Steady.{ranFor, sinceSteady, energiesAfter, fuelsAfter, Addable}
-use Rattle.steady.specs.SteadySecond.{Kept, standing, commandedSince, SteadyStepped}
+use Rattle.steady.specs.SteadySecond.{Kept, runAt, commandedSince, SteadyStepped}
 use Rattle.steady.proofs.SteadyLaws.{steady-barred, later-on, has-later, steady-on, steady-counted}
 
 -- what a set On has beside it is no more than its counts
@@ -52,17 +52,14 @@ beside-small s seconds energy fuel h = (omega (arith, h .energy-most), omega (ar
 counted-same : (f : List SetState → ℕ → ℕ → List SetState) {a b : List SetState} {m n d e : ℕ} → a ≡ b → m ≡ n → d ≡ e → f a m d ≡ f b n e
 counted-same f {a} {b} {m} {n} {d} {e} p q r = ap (λ (z : List SetState). f z m d) p ∙ ap (λ (z : ℕ). f b z d) q ∙ ap (f b n) r
 
-module _ (st : Station) (tables : Tables st) (s : Stretch) (kept : Kept st (s .steady)) (calm : NoEvent (st .sets) (s .steady .states) (s .ran + 1))
-    (energies fuels decided : List ℕ) (x : Inputs) (h : Admitted st (standing s energies fuels decided) x)
+module _ (st : Station) (tables : Tables st) (q : Steady) (s : Standing) (kept : Kept st q) (calm : NoEvent (st .sets) (q .states) (s .ran + 1))
+    (energies fuels decided : List ℕ) (x : Inputs) (h : Admitted st (runAt q s energies fuels decided) x)
     (caps : List ℕ) (rates : Rated (st .sets) (st .configs) caps) (sixty : length decided ≡ 60) where
-  abbrev q : Steady
-  q = s .steady
-
   abbrev now : List SetState
   now = sinceSteady (q .states) (q .on) (s .ran) energies fuels
 
   abbrev r : Run
-  r = standing s energies fuels decided
+  r = runAt q s energies fuels decided
 
   -- the sets after the tick
   abbrev later : List SetState
@@ -152,14 +149,14 @@ module _ (st : Station) (tables : Tables st) (s : Stretch) (kept : Kept st (s .s
           ∙ ap (λ (l : List SetState). commandedAll (st .sets) l mask) (sym ran-is)
 
       pub steady-stepped : (g : Gone) → g .moment ≡ momentAfter (s .moment) (c .call) (c .held) (m .store) (m .watts) → g .row ≡ rowOf (s .moment .done) (m .watts) (q .on) (c .call) (m .store)
-          → SteadyStepped st s r x g adds burns amounts
+          → SteadyStepped st q s r x g adds burns amounts
       steady-stepped g moment row =
           let mask : ℕ = maskCalled (st .configs) (c .call) in
           let taken = stepped-by st caps now (s .moment) decided x later refl (q .on) mask-is (q .cap) cap-fits (q .floor) (kept .is-floor) old first m met amounts moves counted refl (q .barred) barred-is c commits mask refl
-              (record { moment = g .moment; states = commandedAllIn (st .sets) counted mask; row = g .row }) moment refl row
+          (record { moment = g .moment; states = commandedAllIn (st .sets) counted mask; row = g .row }) moment refl row
           in
           let same = stepped-is st tables caps rates r sixty x h (record { moment = g .moment; states = commandedAllIn (st .sets) counted mask; row = g .row }) amounts taken in
           let called : commandedSince st q (s .ran + 1) adds burns (g .moment .called) ≡ commandedAllIn (st .sets) counted mask =
-              ap (λ (z : Moment). commandedSince st q (s .ran + 1) adds burns (z .called)) moment ∙ sym (commanded-is mask)
+          ap (λ (z : Moment). commandedSince st q (s .ran + 1) adds burns (z .called)) moment ∙ sym (commanded-is mask)
           in
           record { after = ap (λ (l : List SetState). runOf (g .moment) l amounts) called ∙ ap (λ (z : Step). z .run) same; row = ap (λ (z : Step). z .row) same }

@@ -22,7 +22,7 @@ use Rattle.dispatch.specs.declared.parts.Moment.{Moment}
 use Rattle.dispatch.specs.Parts.{runOf}
 use Rattle.dispatch.specs.Working.{Admits, Works}
 use Rattle.steady.specs.declared.steady_step.Steady.{Steady}
-use Rattle.steady.specs.declared.steady_step.Stretch.{Stretch}
+use Rattle.steady.specs.declared.steady_step.Standing.{Standing}
 use Rattle.steady.specs.declared.steady_step.Gone.{Gone}
 use Rattle.steady.specs.declared.steady_seconds.Went.{Went}
 use Rattle.steady.specs.NextEvent.{NoEvent, unmovedAll}
@@ -35,28 +35,27 @@ pub record Kept (st : Station) (q : Steady) : Type 0 where
   pub is-floor : q .floor ≡ floorLoad st (q .on)
   pub is-barred : q .barred ≡ barredMask (st .sets) (q .states)
 
--- the record where a stretch stands
-abbrev pub standing : Stretch → List ℕ → List ℕ → List ℕ → Run
-standing s energies fuels decided = runOf (s .moment) (sinceSteady (s .steady .states) (s .steady .on) (s .ran) energies fuels) decided
+-- the record where steady seconds stand
+abbrev pub runAt : Steady → Standing → List ℕ → List ℕ → List ℕ → Run
+runAt q s energies fuels decided = runOf (s .moment) (sinceSteady (q .states) (q .on) (s .ran) energies fuels) decided
 
 -- the sets after some steady seconds and the commands of the last
 abbrev pub commandedSince : Station → Steady → ℕ → List ℕ → List ℕ → ℕ → List SetState
 commandedSince st q ran energies fuels called =
     commandedAll (st .sets) (sinceSteady (q .states) (q .on) ran energies fuels) (maskCalled (st .configs) called)
 
--- what the steps of a steady second owe, with the arrays as they are left: the rules' own, of the record where the stretch stood
-pub record SteadyStepped (st : Station) (s : Stretch) (r : Run) (x : Inputs) (g : Gone) (energies fuels decided : List ℕ) : Type 0 where
-  pub after : runOf (g .moment) (commandedSince st (s .steady) (s .ran + 1) energies fuels (g .moment .called)) decided ≡ step st r x .run
+-- what the steps of a steady second owe, with the arrays as they are left: the rules' own, of the record where it stood
+pub record SteadyStepped (st : Station) (q : Steady) (s : Standing) (r : Run) (x : Inputs) (g : Gone) (energies fuels decided : List ℕ) : Type 0 where
+  pub after : runOf (g .moment) (commandedSince st q (s .ran + 1) energies fuels (g .moment .called)) decided ≡ step st r x .run
   pub row : g .row ≡ step st r x .row
 
 -- what a walk over steady seconds may take for granted
-pub record Walkable (st : Station) (s : Stretch) (inputs decided energies fuels rows : List ℕ) : Type 0 where
-  pub kept : Kept st (s .steady)
-  pub unmoved : unmovedAll (s .steady .states) (s .steady .called) ≡ true
-  pub called : maskCalled (st .configs) (s .moment .called) ≡ s .steady .called
-  pub no-event : NoEvent (st .sets) (s .steady .states) (length (inputsEach inputs))
-  pub at-start : s .ran ≡ 0
-  pub admits : Admits st (standing s energies fuels decided) (inputsEach inputs)
+pub record Walkable (st : Station) (q : Steady) (m : Moment) (inputs decided energies fuels rows : List ℕ) : Type 0 where
+  pub kept : Kept st q
+  pub unmoved : unmovedAll (q .states) (q .called) ≡ true
+  pub called : maskCalled (st .configs) (m .called) ≡ q .called
+  pub no-event : NoEvent (st .sets) (q .states) (length (inputsEach inputs))
+  pub admits : Admits st (runOf m (sinceSteady (q .states) (q .on) 0 energies fuels) decided) (inputsEach inputs)
   pub some : 0 < length (inputsEach inputs)
   pub room : 13 * length (inputsEach inputs) ≤ length rows
   pub sixty : length decided ≡ 60

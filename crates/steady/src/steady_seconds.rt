@@ -11,7 +11,7 @@ use crate::next_event::unmoved_all;
 use crate::next_event::until_event;
 use crate::steady_counts::made;
 use crate::steady_step::Steady;
-use crate::steady_step::Stretch;
+use crate::steady_walk::Stretch;
 use crate::steady_walk::steady_walk;
 use commitment::configuration::capacity_fitting;
 use commitment::configuration::mask_called;
@@ -80,12 +80,19 @@ pub(crate) fn steady_seconds(
     let mut sums = [0u64; 8];
     let mut lines = [0u64; 160];
     fill_tables(sets, steady.on, &mut sums, &mut lines);
-    let from = Stretch {
-        steady,
-        moment,
-        ran: 0,
-    };
-    let walked = steady_walk(st, caps, from, inputs, decided, &mut energies, &mut fuels, rows, &sums, &lines);
+    let from = Stretch { steady, moment };
+    let walked = steady_walk(
+        st,
+        caps,
+        from,
+        inputs,
+        decided,
+        &mut energies,
+        &mut fuels,
+        rows,
+        &sums,
+        &lines,
+    );
     let after = walked.moment;
     let ran = made(states, steady.on, walked.ran as u32, &energies, &fuels);
     Went {

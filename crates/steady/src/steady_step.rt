@@ -6,7 +6,7 @@ ghost use Rattle.laws.specs.Admitted.{Admitted};
 ghost use Rattle.commitment.specs.Choice.{Rated};
 ghost use Rattle.steady.specs.NextEvent.{NoEvent};
 ghost use Rattle.steady.specs.CurveTable.{Tabled};
-ghost use Rattle.steady.specs.SteadySecond.{Kept, standing, SteadyStepped};
+ghost use Rattle.steady.specs.SteadySecond.{Kept, runAt, SteadyStepped};
 use crate::steady_counts::count_steady;
 use commitment::commit::commit;
 use dispatch::parts::Moment;
@@ -31,9 +31,8 @@ pub(crate) struct Steady {
     pub(crate) states: [SetState; 8],
 }
 
-// Where a stretch of steady seconds stands: the record but for its arrays, and how many seconds it has.
-pub(crate) struct Stretch {
-    pub(crate) steady: Steady,
+// Where the steady seconds stand: the record but for its arrays, and how many they are.
+pub(crate) struct Standing {
     pub(crate) moment: Moment,
     pub(crate) ran: usize,
 }
@@ -47,7 +46,8 @@ pub(crate) struct Gone {
 pub(crate) fn steady_step(
     st: Station,
     caps: &[u32; 64],
-    stretch: Stretch,
+    steady: Steady,
+    standing: Standing,
     inputs: Inputs,
     decided: &mut [u32],
     energies: &mut [u64],
@@ -55,21 +55,46 @@ pub(crate) fn steady_step(
     sums: &[u64; 8],
     lines: &[u64; 160],
 ) -> Gone
-    requires { ⌜ Kept st (stretch .steady) × NoEvent (st .sets) (stretch .steady .states) (stretch .ran + 1) × Admitted st (standing stretch (now energies) (now fuels) (now decided)) inputs × Rated (st .sets) (st .configs) (now caps) × (length (now decided) ≡ 60) × (length (now energies) ≡ 8) × (length (now fuels) ≡ 8) × Tabled (st .sets) (stretch .steady .on) (now sums) (now lines) ⌝ }
-    ensures { λ r. ⌜ SteadyStepped st stretch (standing stretch (now (energies .entry)) (now (fuels .entry)) (now (decided .entry))) inputs r (now (energies .exit)) (now (fuels .exit)) (now (decided .exit)) ⌝ }
+    requires { ⌜ Kept st steady × NoEvent (st .sets) (steady .states) (standing .ran + 1) × Admitted st (runAt steady standing (now energies) (now fuels) (now decided)) inputs × Rated (st .sets) (st .configs) (now caps) × (length (now decided) ≡ 60) × (length (now energies) ≡ 8) × (length (now fuels) ≡ 8) × Tabled (st .sets) (steady .on) (now sums) (now lines) ⌝ }
+    ensures { λ r. ⌜ SteadyStepped st steady standing (runAt steady standing (now (energies .entry)) (now (fuels .entry)) (now (decided .entry))) inputs r (now (energies .exit)) (now (fuels .exit)) (now (decided .exit)) ⌝ }
 {
-    let steady = stretch.steady;
-    let moment = stretch.moment;
+    let moment = standing.moment;
     let sets = st.sets;
     let on = steady.on;
-    let met = meet_load(st, moment.store, steady.cap, steady.floor, oldest(decided), inputs);
+    let met = meet_load(
+        st,
+        moment.store,
+        steady.cap,
+        steady.floor,
+        oldest(decided),
+        inputs,
+    );
     let watts = met.watts;
     decide(st.control.delay, met.decided, decided);
-    count_steady(sets, sums, lines, on, watts.diesel, steady.cap as u64, energies, fuels);
+    count_steady(
+        sets,
+        sums,
+        lines,
+        on,
+        watts.diesel,
+        steady.cap as u64,
+        energies,
+        fuels,
+    );
     let setpoint = moment.setpoint;
     let done = moment.done;
     let called = moment.called;
-    let chosen = commit(st, caps, steady.barred, setpoint, called, moment.since, done, watts, inputs.sheddable);
+    let chosen = commit(
+        st,
+        caps,
+        steady.barred,
+        setpoint,
+        called,
+        moment.since,
+        done,
+        watts,
+        inputs.sheddable,
+    );
     let call = chosen.call;
     Gone {
         moment: moment_after(moment, call, chosen.held, met.store, watts),

@@ -1,16 +1,12 @@
 // Steady seconds one after the other, up to the first that calls other sets.
-ghost use mathlib.Core.Path.{_≡_};
-ghost use mathlib.Core.Bool.{true};
-ghost use Prim.Native.Nat.{_<_};
-ghost use lib.ListN.{length};
-ghost use Rattle.rules.specs.RunRecord.{possible};
 ghost use Rattle.rules.specs.Seconds.{inputsEach};
 ghost use Rattle.commitment.specs.Choice.{Rated};
 ghost use Rattle.dispatch.specs.Parts.{runOf};
-ghost use Rattle.dispatch.specs.Working.{Works};
 ghost use Rattle.steady.specs.CurveTable.{Tabled};
-ghost use Rattle.steady.specs.SteadySecond.{standing, commandedSince, Walkable, Walks};
-use crate::steady_step::Stretch;
+ghost use Rattle.steady.specs.Steady.{sinceSteady};
+ghost use Rattle.steady.specs.SteadySecond.{Walkable, Walks};
+use crate::steady_step::Standing;
+use crate::steady_step::Steady;
 use crate::steady_step::steady_step;
 use commitment::configuration::mask_called;
 use dispatch::inputs::first_inputs;
@@ -23,10 +19,10 @@ const COLUMNS: usize = 13;
 
 const INPUTS: usize = 3;
 
-// The record after the seconds but for its arrays, and how many they are.
-pub(crate) struct Walked {
+// Where a walk begins.
+pub(crate) struct Stretch {
+    pub(crate) steady: Steady,
     pub(crate) moment: Moment,
-    pub(crate) ran: usize,
 }
 
 pub(crate) fn steady_walk(
@@ -40,9 +36,9 @@ pub(crate) fn steady_walk(
     rows: &mut [u64],
     sums: &[u64; 8],
     lines: &[u64; 160],
-) -> Walked
-    requires { ⌜ Walkable st from (now inputs) (now decided) (now energies) (now fuels) (now rows) × Rated (st .sets) (st .configs) (now caps) × Tabled (st .sets) (from .steady .on) (now sums) (now lines) ⌝ }
-    ensures { λ r. ⌜ Walks st (from .steady) (standing from (now (energies .entry)) (now (fuels .entry)) (now (decided .entry))) (inputsEach (now (inputs .entry))) (now (rows .entry)) (r .moment) (r .ran) (now (energies .exit)) (now (fuels .exit)) (now (decided .exit)) (now (rows .exit)) ⌝ }
+) -> Standing
+    requires { ⌜ Walkable st (from .steady) (from .moment) (now inputs) (now decided) (now energies) (now fuels) (now rows) × Rated (st .sets) (st .configs) (now caps) × Tabled (st .sets) (from .steady .on) (now sums) (now lines) ⌝ }
+    ensures { λ r. ⌜ Walks st (from .steady) (runOf (from .moment) (sinceSteady (from .steady .states) (from .steady .on) 0 (now (energies .entry)) (now (fuels .entry))) (now (decided .entry))) (inputsEach (now (inputs .entry))) (now (rows .entry)) (r .moment) (r .ran) (now (energies .exit)) (now (fuels .exit)) (now (decided .exit)) (now (rows .exit)) ⌝ }
 {
     let configs = st.configs;
     let steady = from.steady;
@@ -51,19 +47,26 @@ pub(crate) fn steady_walk(
     let mut ran: usize = 0;
     while ran < count {
         let x = first_inputs(&inputs[INPUTS * ran..]);
-        let stretch = Stretch {
+        let standing = Standing { moment, ran };
+        let gone = steady_step(
+            st,
+            caps,
             steady,
-            moment,
-            ran,
-        };
-        let gone = steady_step(st, caps, stretch, x, decided, energies, fuels, sums, lines);
+            standing,
+            x,
+            decided,
+            energies,
+            fuels,
+            sums,
+            lines,
+        );
         moment = gone.moment;
         let row = gone.row;
         put_row_numbers(row, &mut rows[COLUMNS * ran..]);
         ran += 1;
         if mask_called(configs, moment.called) != steady.called {
-            return Walked { moment, ran };
+            return Standing { moment, ran };
         }
     }
-    Walked { moment, ran }
+    Standing { moment, ran }
 }

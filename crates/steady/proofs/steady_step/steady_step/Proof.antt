@@ -29,8 +29,8 @@ cast-count-steady c = search needs
 count-steady-requires : tie.Need-count-steady-requires
 count-steady-requires c κs =
     let met = c .before .before .before .before .before .before .before .before in
-    let start = c .before .before .before .before .before .before .before .before .before .before .before .before .before .before .before .before .before in
-    (addable (start .args .st) (tables start) (start .args .stretch) (start .pre .0) (start .pre .1) (now (start .args .energies)) (now (start .args .fuels)) (now (start .args .decided)) (start .args .inputs) (start .pre .2) (now (start .args .caps)) (start .pre .3) (start .pre .4) _ (met .before .oldest .ensures) _ (met .meet-load .ensures) (start .pre .5) (start .pre .6), start .pre .7)
+    let start = c .before .before .before .before .before .before .before .before .before .before .before .before .before .before .before .before in
+    (addable (start .args .st) (tables start) (start .args .steady) (start .args .standing) (start .pre .0) (start .pre .1) (now (start .args .energies)) (now (start .args .fuels)) (now (start .args .decided)) (start .args .inputs) (start .pre .2) (now (start .args .caps)) (start .pre .3) (start .pre .4) _ (met .before .oldest .ensures) _ (met .meet-load .ensures) (start .pre .5) (start .pre .6), start .pre .7)
 
 commit-requires : tie.Need-commit-requires
 commit-requires c κs = search needs
@@ -56,8 +56,8 @@ returns c =
     let added = c .before .before .before .before .before .before .before in
     let left = c .before .before .before .before .before .before .before .before .before .before .before .before .before in
     let met = c .before .before .before .before .before .before .before .before .before .before .before .before .before .before .before .before in
-    let start = c .before .before .before .before .before .before .before .before .before .before .before .before .before .before .before .before .before .before .before .before .before .before .before .before .before in
-    steady-stepped (start .args .st) (tables start) (start .args .stretch) (start .pre .0) (start .pre .1) (now (start .args .energies)) (now (start .args .fuels)) (now (start .args .decided)) (start .args .inputs) (start .pre .2) (now (start .args .caps)) (start .pre .3) (start .pre .4) _ (met .before .oldest .ensures) _ (met .meet-load .ensures) _ (left .decide .ensures) _ _ (added .count-steady .ensures .0) (added .count-steady .ensures .1) _ (committed .commit .ensures) _ (c .before .moment-after .ensures) (c .row-of .ensures)
+    let start = c .before .before .before .before .before .before .before .before .before .before .before .before .before .before .before .before .before .before .before .before .before .before .before .before in
+    steady-stepped (start .args .st) (tables start) (start .args .steady) (start .args .standing) (start .pre .0) (start .pre .1) (now (start .args .energies)) (now (start .args .fuels)) (now (start .args .decided)) (start .args .inputs) (start .pre .2) (now (start .args .caps)) (start .pre .3) (start .pre .4) _ (met .before .oldest .ensures) _ (met .meet-load .ensures) _ (left .decide .ensures) _ _ (added .count-steady .ensures .0) (added .count-steady .ensures .1) _ (committed .commit .ensures) _ (c .before .moment-after .ensures) (c .row-of .ensures)
 
 pub steady-step-spec : {M : Type 1} → statement M
 steady-step-spec =

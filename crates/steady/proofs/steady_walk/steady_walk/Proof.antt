@@ -23,10 +23,10 @@ use Rattle.dispatch.specs.Working.{firstInputs, Admits, Works}
 use Rattle.dispatch.proofs.Admitting.{rest-of}
 use Rattle.dispatch.proofs.Each.{each-at, each-length}
 use Rattle.dispatch.proofs.Working.{works-start, works-length, works-step, next-admitted, first-admitted, back-is}
-use Rattle.steady.specs.declared.steady_step.Stretch.{Stretch}
+use Rattle.steady.specs.declared.steady_step.Standing.{Standing}
 use Rattle.steady.specs.NextEvent.{NoEvent}
 use Rattle.steady.specs.Steady.{sinceSteady}
-use Rattle.steady.specs.SteadySecond.{standing, commandedSince, SteadyStepped, Walks}
+use Rattle.steady.specs.SteadySecond.{runAt, commandedSince, SteadyStepped, Walks}
 use Rattle.steady.proofs.EventLaws.{fewer}
 use Rattle.steady.proofs.Walking.{stays-steady, possible-after}
 use Rattle.steady.proofs.steady_walk.steady_walk.Statement.{statement}
@@ -60,6 +60,10 @@ tables c =
 many : (c : tie.Start Inv-loop μ-loop) → length (inputsEach (now (c .args .inputs))) ≡ length (now (c .args .inputs)) / 3
 many c = each-length (now (c .args .inputs))
 
+-- the record where it began
+abbrev began : tie.Start Inv-loop μ-loop → Run
+began c = runOf (c .args .from .moment) (sinceSteady (c .args .from .steady .states) (c .args .from .steady .on) 0 (now (c .args .energies)) (now (c .args .fuels))) (now (c .args .decided))
+
 -- ---- a second of the walk
 
 module _ (c : tie.After-first-inputs Inv-loop μ-loop) where
@@ -69,11 +73,11 @@ module _ (c : tie.After-first-inputs Inv-loop μ-loop) where
   abbrev start : tie.Start Inv-loop μ-loop
   start = start-of at
 
-  abbrev stretch : Stretch
-  stretch = record { steady = start .args .from .steady; moment = at .loop .moment; ran = at .loop .ran }
+  abbrev standing : Standing
+  standing = record { moment = at .loop .moment; ran = at .loop .ran }
 
   abbrev r : Run
-  r = standing stretch (at .loop .energies) (at .loop .fuels) (at .loop .decided)
+  r = runAt (start .args .from .steady) standing (at .loop .energies) (at .loop .fuels) (at .loop .decided)
 
   abbrev x : Inputs
   x = firstInputs (drop (3 * at .loop .ran) (now (start .args .inputs)))
@@ -104,16 +108,16 @@ module _ (c : tie.After-put-row-numbers Inv-loop μ-loop) where
   read = stepped .before .before .before .before
 
   abbrev energies′ : List ℕ
-  energies′ = stepped .steady-step .last .1 .1 .1 .1 .1 .0
+  energies′ = stepped .steady-step .last .1 .1 .1 .1 .1 .1 .0
 
   abbrev fuels′ : List ℕ
-  fuels′ = stepped .steady-step .last .1 .1 .1 .1 .1 .1 .0
+  fuels′ = stepped .steady-step .last .1 .1 .1 .1 .1 .1 .1 .0
 
   abbrev decided′ : List ℕ
-  decided′ = stepped .steady-step .last .1 .1 .1 .1 .0
+  decided′ = stepped .steady-step .last .1 .1 .1 .1 .1 .0
 
-  taken : SteadyStepped (start read .args .st) (stretch read) (r read) (x read) (stepped .steady-step .result) energies′ fuels′ decided′
-  taken = subst (λ (y : Inputs). SteadyStepped (start read .args .st) (stretch read) (r read) y (stepped .steady-step .result) energies′ fuels′ decided′) (asked read) (stepped .steady-step .ensures)
+  taken : SteadyStepped (start read .args .st) (start read .args .from .steady) (standing read) (r read) (x read) (stepped .steady-step .result) energies′ fuels′ decided′
+  taken = subst (λ (y : Inputs). SteadyStepped (start read .args .st) (start read .args .from .steady) (standing read) (r read) y (stepped .steady-step .result) energies′ fuels′ decided′) (asked read) (stepped .steady-step .ensures)
 
   abbrev rows′ : List ℕ
   rows′ = take (13 * at read .loop .ran) (at read .loop .rows) ++ (c .put-row-numbers .last .1 .0 ++ drop (length (at read .loop .rows) - 13 * at read .loop .ran) (drop (13 * at read .loop .ran) (at read .loop .rows)))
@@ -128,16 +132,14 @@ module _ (c : tie.After-put-row-numbers Inv-loop μ-loop) where
   abbrev after : Run
   after = runOf (stepped .steady-step .result .moment) (commandedSince (start read .args .st) (start read .args .from .steady) (at read .loop .ran + 1) energies′ fuels′ (stepped .steady-step .result .moment .called)) decided′
 
-  worked : Works (start read .args .st) (standing (start read .args .from) (now (start read .args .energies)) (now (start read .args .fuels)) (now (start read .args .decided))) (inputsEach (now (start read .args .inputs))) (now (start read .args .rows)) (at read .loop .ran + 1) after rows′
+  worked : Works (start read .args .st) (began (start read)) (inputsEach (now (start read .args .inputs))) (now (start read .args .rows)) (at read .loop .ran + 1) after rows′
   worked =
       let a = start read .args in
       let xs = inputsEach (now (a .inputs)) in
       let n = at read .loop .ran + 1 in
-      let began : ℕ → Run = λ k. runOf (a .from .moment) (sinceSteady (a .from .steady .states) (a .from .steady .on) k (now (a .energies)) (now (a .fuels))) (now (a .decided)) in
       let one = works-step (at read .loop .inv .0) (x read) _ (here read) (has-place read) in
-      let put = subst (λ (l : List ℕ). Works (a .st) (began 0) xs (now (a .rows)) n (step (a .st) (r read) (x read) .run) l) (sym back) one in
-      let left = subst (λ (z : Run). Works (a .st) (began 0) xs (now (a .rows)) n z rows′) (sym (taken .after)) put in
-      subst (λ (k : ℕ). Works (a .st) (began k) xs (now (a .rows)) n after rows′) (sym (start read .pre .0 .at-start)) left
+      let put = subst (λ (l : List ℕ). Works (a .st) (began (start read)) xs (now (a .rows)) n (step (a .st) (r read) (x read) .run) l) (sym back) one in
+      subst (λ (z : Run). Works (a .st) (began (start read)) xs (now (a .rows)) n z rows′) (sym (taken .after)) put
 
   rows-size : length rows′ ≡ length (now (start read .args .rows))
   rows-size = works-length worked (omega (arith, start read .pre .0 .room, below read))
@@ -145,7 +147,7 @@ module _ (c : tie.After-put-row-numbers Inv-loop μ-loop) where
   stays-possible : possible (start read .args .st) after ≡ true
   stays-possible = ap (possible (start read .args .st)) (taken .after) ∙ possible-after (start read .args .st) (tables (start read)) (r read) (x read) (admitted read)
 
-  walks : Walks (start read .args .st) (start read .args .from .steady) (standing (start read .args .from) (now (start read .args .energies)) (now (start read .args .fuels)) (now (start read .args .decided))) (inputsEach (now (start read .args .inputs))) (now (start read .args .rows)) (stepped .steady-step .result .moment) (at read .loop .ran + 1) energies′ fuels′ decided′ rows′
+  walks : Walks (start read .args .st) (start read .args .from .steady) (began (start read)) (inputsEach (now (start read .args .inputs))) (now (start read .args .rows)) (stepped .steady-step .result .moment) (at read .loop .ran + 1) energies′ fuels′ decided′ rows′
   walks = record { works = worked; some = omega arith; stays-possible = stays-possible }
 
 loop-holds : tie.Need-loop-holds Inv-loop μ-loop
@@ -153,8 +155,7 @@ loop-holds c =
     let start = c .before .before .before .before .before .before .before .before in
     let pre = start .pre .0 in
     let a = start .args in
-    let admits = subst (λ (k : ℕ). Admits (a .st) (runOf (a .from .moment) (sinceSteady (a .from .steady .states) (a .from .steady .on) k (now (a .energies)) (now (a .fuels))) (now (a .decided))) (inputsEach (now (a .inputs)))) (pre .at-start) (pre .admits) in
-    (works-start (a .st) _ _ (now (a .rows)) admits, pre .called, omega arith, pre .sixty, pre .energies-length, pre .fuels-length, refl, first-admitted admits (pre .some) (record { load = 0; solar = 0; sheddable = 0 }) .record-possible)
+    (works-start (a .st) _ _ (now (a .rows)) (pre .admits), pre .called, omega arith, pre .sixty, pre .energies-length, pre .fuels-length, refl, first-admitted (pre .admits) (pre .some) (record { load = 0; solar = 0; sheddable = 0 }) .record-possible)
 
 mul-first-inputs : tie.Need-mul-first-inputs Inv-loop μ-loop
 mul-first-inputs c = let s = start-of (c .before) in record { fits = omega (arith, c .loop-test .taken, s .good .1 .1 .1 .0 .0) }
@@ -206,13 +207,13 @@ mask-called-requires : tie.Need-mask-called-requires Inv-loop μ-loop
 mask-called-requires c κs = search needs
 
 same-length : tie.Need-same-length Inv-loop μ-loop
-same-length c = let at = c .before .before .before .before .before .before .before .before .before .before .before .before .before .before .before .before .before .before .before .before .before .before in c .before .before .before .before .before .before .before .before .before .before .before .before .before .before .before .steady-step .kept .1 .1 .1 .1 .0 ∙ at .loop .inv .3 ∙ sym (start-of at .pre .0 .sixty)
+same-length c = let at = c .before .before .before .before .before .before .before .before .before .before .before .before .before .before .before .before .before .before .before .before .before .before in c .before .before .before .before .before .before .before .before .before .before .before .before .before .before .before .steady-step .kept .1 .1 .1 .1 .1 .0 ∙ at .loop .inv .3 ∙ sym (start-of at .pre .0 .sixty)
 
 same-length-2 : tie.Need-same-length-2 Inv-loop μ-loop
-same-length-2 c = let at = c .before .before .before .before .before .before .before .before .before .before .before .before .before .before .before .before .before .before .before .before .before .before in c .before .before .before .before .before .before .before .before .before .before .before .before .before .before .before .steady-step .kept .1 .1 .1 .1 .1 .0 ∙ at .loop .inv .4 ∙ sym (start-of at .pre .0 .energies-length)
+same-length-2 c = let at = c .before .before .before .before .before .before .before .before .before .before .before .before .before .before .before .before .before .before .before .before .before .before in c .before .before .before .before .before .before .before .before .before .before .before .before .before .before .before .steady-step .kept .1 .1 .1 .1 .1 .1 .0 ∙ at .loop .inv .4 ∙ sym (start-of at .pre .0 .energies-length)
 
 same-length-3 : tie.Need-same-length-3 Inv-loop μ-loop
-same-length-3 c = let at = c .before .before .before .before .before .before .before .before .before .before .before .before .before .before .before .before .before .before .before .before .before .before in c .before .before .before .before .before .before .before .before .before .before .before .before .before .before .before .steady-step .kept .1 .1 .1 .1 .1 .1 .0 ∙ at .loop .inv .5 ∙ sym (start-of at .pre .0 .fuels-length)
+same-length-3 c = let at = c .before .before .before .before .before .before .before .before .before .before .before .before .before .before .before .before .before .before .before .before .before .before in c .before .before .before .before .before .before .before .before .before .before .before .before .before .before .before .steady-step .kept .1 .1 .1 .1 .1 .1 .1 .0 ∙ at .loop .inv .5 ∙ sym (start-of at .pre .0 .fuels-length)
 
 same-length-4 : tie.Need-same-length-4 Inv-loop μ-loop
 same-length-4 c = rows-size (c .before .before .before .before .before)
@@ -233,16 +234,13 @@ loop-again c =
     let t = read put .before .before .loop-test .taken in
     let mask : maskCalled (start .args .st .configs) (stepped .steady-step .result .moment .called) ≡ start .args .from .steady .called = sym (c .before .before .mask-called .ensures .0) ∙ (omega (arith, c .if1 .left)) in
     let same = stays-steady (start .args .st) (start .args .from .steady) (pre .kept .is-on) (pre .unmoved) (at .loop .ran + 1) (energies′ put) (fuels′ put) _ mask in
-    let run : List SetState → Run = λ l. runOf (stepped .steady-step .result .moment) l (decided′ put) in
-    let began : ℕ → Run = λ k. runOf (start .args .from .moment) (sinceSteady (start .args .from .steady .states) (start .args .from .steady .on) k (now (start .args .energies)) (now (start .args .fuels))) (now (start .args .decided)) in
-    (
-      subst (λ (k : ℕ). Works (start .args .st) (began k) (inputsEach (now (start .args .inputs))) (now (start .args .rows)) (at .loop .ran + 1) (run (sinceSteady (start .args .from .steady .states) (start .args .from .steady .on) (at .loop .ran + 1) (energies′ put) (fuels′ put))) (rows′ put)) (pre .at-start)
-      (subst (λ (l : List SetState). Works (start .args .st) (began (start .args .from .ran)) (inputsEach (now (start .args .inputs))) (now (start .args .rows)) (at .loop .ran + 1) (run l) (rows′ put)) same (worked put)),
+    let run : List SetState → Run = λ l. runOf (stepped .steady-step .result .moment) l (decided′ put) in (
+      subst (λ (l : List SetState). Works (start .args .st) (began start) (inputsEach (now (start .args .inputs))) (now (start .args .rows)) (at .loop .ran + 1) (run l) (rows′ put)) same (worked put),
       mask,
       omega arith,
-      stepped .steady-step .kept .1 .1 .1 .1 .0 ∙ at .loop .inv .3,
-      stepped .steady-step .kept .1 .1 .1 .1 .1 .0 ∙ at .loop .inv .4,
-      stepped .steady-step .kept .1 .1 .1 .1 .1 .1 .0 ∙ at .loop .inv .5,
+      stepped .steady-step .kept .1 .1 .1 .1 .1 .0 ∙ at .loop .inv .3,
+      stepped .steady-step .kept .1 .1 .1 .1 .1 .1 .0 ∙ at .loop .inv .4,
+      stepped .steady-step .kept .1 .1 .1 .1 .1 .1 .1 .0 ∙ at .loop .inv .5,
       rows-size put,
       subst (λ (l : List SetState). possible (start .args .st) (run l) ≡ true) same (stays-possible put),
     )
@@ -266,11 +264,8 @@ returns-2 c =
     let pre = start .pre .0 in
     let same = sym (stays-steady (start .args .st) (start .args .from .steady) (pre .kept .is-on) (pre .unmoved) (at .loop .ran) (at .loop .energies) (at .loop .fuels) _ (at .loop .inv .1)) in
     let run : List SetState → Run = λ l. runOf (at .loop .moment) l (at .loop .decided) in
-    let began : ℕ → Run = λ k. runOf (start .args .from .moment) (sinceSteady (start .args .from .steady .states) (start .args .from .steady .on) k (now (start .args .energies)) (now (start .args .fuels))) (now (start .args .decided)) in
     record {
-      works =
-          subst (λ (k : ℕ). Works (start .args .st) (began k) (inputsEach (now (start .args .inputs))) (now (start .args .rows)) (at .loop .ran) (run (commandedSince (start .args .st) (start .args .from .steady) (at .loop .ran) (at .loop .energies) (at .loop .fuels) (at .loop .moment .called))) (at .loop .rows)) (sym (pre .at-start))
-          (subst (λ (l : List SetState). Works (start .args .st) (began 0) (inputsEach (now (start .args .inputs))) (now (start .args .rows)) (at .loop .ran) (run l) (at .loop .rows)) same (at .loop .inv .0));
+      works = subst (λ (l : List SetState). Works (start .args .st) (began start) (inputsEach (now (start .args .inputs))) (now (start .args .rows)) (at .loop .ran) (run l) (at .loop .rows)) same (at .loop .inv .0);
       some = let t = c .loop-test .left in omega (arith, pre .some, many start);
       stays-possible = subst (λ (l : List SetState). possible (start .args .st) (run l) ≡ true) same (at .loop .inv .7);
     }
