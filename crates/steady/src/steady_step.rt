@@ -62,14 +62,40 @@ pub(crate) fn steady_step(
     let moment = stretch.moment;
     let sets = st.sets;
     let on = steady.on;
-    let met = meet_load(st, moment.store, steady.cap, steady.floor, oldest(decided), inputs);
+    let met = meet_load(
+        st,
+        moment.store,
+        steady.cap,
+        steady.floor,
+        oldest(decided),
+        inputs,
+    );
     let watts = met.watts;
     decide(st.control.delay, met.decided, decided);
-    count_steady(sets, sums, lines, on, watts.diesel, steady.cap as u64, energies, fuels);
+    count_steady(
+        sets,
+        sums,
+        lines,
+        on,
+        watts.diesel,
+        steady.cap,
+        energies,
+        fuels,
+    );
     let setpoint = moment.setpoint;
     let done = moment.done;
     let called = moment.called;
-    let chosen = commit(st, caps, steady.barred, setpoint, called, moment.since, done, watts, inputs.sheddable);
+    let chosen = commit(
+        st,
+        caps,
+        steady.barred,
+        setpoint,
+        called,
+        moment.since,
+        done,
+        watts,
+        inputs.sheddable,
+    );
     let call = chosen.call;
     Gone {
         moment: moment_after(moment, call, chosen.held, met.store, watts),
