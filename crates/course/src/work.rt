@@ -8,12 +8,12 @@ ghost use Rattle.course.specs.Moves.{Moves, withSource, waitingFor, halt
 use crate::state::Course;
 use crate::state::Halt;
 use crate::state::Moved;
-use steady::seconds::seconds;
 use rules::answers::Ended;
 use samples::inputs::InputSource;
 use samples::inputs::end_inputs;
 use samples::inputs::fill;
 use samples::inputs::has_ended;
+use steady::seconds::seconds;
 use words::arithmetic::lesser;
 use words::arithmetic::wide;
 

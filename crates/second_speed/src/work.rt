@@ -7,7 +7,6 @@ use crate::row_bytes::RowBytes;
 use crate::row_bytes::no_bytes;
 use crate::row_bytes::with_bytes;
 use dispatch::second::second;
-use steady::seconds::seconds;
 use rows::put_rows::put_rows;
 use rules::answers::Ended;
 use rules::answers::Outcome;
@@ -15,6 +14,7 @@ use rules::answers::Verdict;
 use rules::run::Run;
 use rules::run::Worked;
 use rules::station::Station;
+use steady::seconds::seconds;
 
 // Seconds in a batch: their numbers stay in the processor's first cache, and the text of any rows has room in 65,536 bytes.
 const BATCH: u32 = 384;

@@ -156,10 +156,10 @@ module _ (st : Station) (tables : Tables st) (s : Stretch) (kept : Kept st (s .s
       steady-stepped g moment row =
           let mask : ℕ = maskCalled (st .configs) (c .call) in
           let taken = stepped-by st caps now (s .moment) decided x later refl (q .on) mask-is (q .cap) cap-fits (q .floor) (kept .is-floor) old first m met amounts moves counted refl (q .barred) barred-is c commits mask refl
-              (record { moment = g .moment; states = commandedAllIn (st .sets) counted mask; row = g .row }) moment refl row
+          (record { moment = g .moment; states = commandedAllIn (st .sets) counted mask; row = g .row }) moment refl row
           in
           let same = stepped-is st tables caps rates r sixty x h (record { moment = g .moment; states = commandedAllIn (st .sets) counted mask; row = g .row }) amounts taken in
           let called : commandedSince st q (s .ran + 1) adds burns (g .moment .called) ≡ commandedAllIn (st .sets) counted mask =
-              ap (λ (z : Moment). commandedSince st q (s .ran + 1) adds burns (z .called)) moment ∙ sym (commanded-is mask)
+          ap (λ (z : Moment). commandedSince st q (s .ran + 1) adds burns (z .called)) moment ∙ sym (commanded-is mask)
           in
           record { after = ap (λ (l : List SetState). runOf (g .moment) l amounts) called ∙ ap (λ (z : Step). z .run) same; row = ap (λ (z : Step). z .row) same }

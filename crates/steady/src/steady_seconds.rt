@@ -85,7 +85,18 @@ pub(crate) fn steady_seconds(
         moment,
         ran: 0,
     };
-    let walked = steady_walk(st, caps, from, inputs, decided, &mut energies, &mut fuels, rows, &sums, &lines);
+    let walked = steady_walk(
+        st,
+        caps,
+        from,
+        inputs,
+        decided,
+        &mut energies,
+        &mut fuels,
+        rows,
+        &sums,
+        &lines,
+    );
     let after = walked.moment;
     let ran = made(states, steady.on, walked.ran as u32, &energies, &fuels);
     Went {

@@ -62,5 +62,13 @@ pub(crate) fn stretch_from(
         return one_second(st, caps, states, moment, inputs, decided, rows);
     }
     let steady = kept(st, states, called);
-    steady_seconds(st, caps, steady, moment, &inputs[..INPUTS * most], decided, rows)
+    steady_seconds(
+        st,
+        caps,
+        steady,
+        moment,
+        &inputs[..INPUTS * most],
+        decided,
+        rows,
+    )
 }

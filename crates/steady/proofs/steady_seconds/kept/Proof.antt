@@ -26,8 +26,7 @@ returns c =
     let masked = fitted .before in
     let start = masked .before .before in
     let most = capacity-most (start .args .st) (start .pre) (masked .on-mask .result) in
-    let whole : min (capacity (start .args .st .sets) (masked .on-mask .result)) 4_294_967_295 ≡ capacity (start .args .st .sets) (masked .on-mask .result) = omega arith in
-    (
+    let whole : min (capacity (start .args .st .sets) (masked .on-mask .result)) 4_294_967_295 ≡ capacity (start .args .st .sets) (masked .on-mask .result) = omega arith in (
       record { is-on = masked .on-mask .ensures .0; is-cap = fitted .capacity-fitting .ensures ∙ whole; is-floor = c .before .floor-load .ensures; is-barred = c .barred-mask .ensures .0 },
       refl,
       refl,

@@ -69,8 +69,7 @@ steady-walk-requires : tie.Need-steady-walk-requires
 steady-walk-requires c κs =
     let start = c .before .before .before .before .before .before .before .before .before .before .before .before .before .before .before .before .before in
     let a = start .args in
-    let pre = start .pre in
-    (
+    let pre = start .pre in (
       record {
         kept = pre .1;
         unmoved = pre .2;
@@ -129,7 +128,7 @@ returns c =
     let a = start .args in
     let states : List SetState = commandedSince (a .st) (a .steady) (walked .steady-walk .result .ran) (walked .steady-walk .last .1 .1 .1 .1 .1 .0) (walked .steady-walk .last .1 .1 .1 .1 .1 .1 .0) (walked .steady-walk .result .moment .called) in
     let commanded : c .command-all .result ≡ states =
-        c .command-all .ensures ∙ rw (c .before .before .made .ensures, c .before .mask-called .ensures .0) (all-commanded (a .st .sets) _ _ (switches-made (start .args .st) (given start) (start .args .steady .states) (start .args .steady .on) (start .pre .1 .is-on) (walked .steady-walk .result .ran) (walked .steady-walk .last .1 .1 .1 .1 .1 .0) (walked .steady-walk .last .1 .1 .1 .1 .1 .1 .0) (walked .steady-walk .result .moment) (walked .steady-walk .last .1 .1 .1 .1 .0) _ (walked .steady-walk .ensures .stays-possible)))
+    c .command-all .ensures ∙ rw (c .before .before .made .ensures, c .before .mask-called .ensures .0) (all-commanded (a .st .sets) _ _ (switches-made (start .args .st) (given start) (start .args .steady .states) (start .args .steady .on) (start .pre .1 .is-on) (walked .steady-walk .result .ran) (walked .steady-walk .last .1 .1 .1 .1 .1 .0) (walked .steady-walk .last .1 .1 .1 .1 .1 .1 .0) (walked .steady-walk .result .moment) (walked .steady-walk .last .1 .1 .1 .1 .0) _ (walked .steady-walk .ensures .stays-possible)))
     in
     let ran : List SetState → Run = λ l. runOf (walked .steady-walk .result .moment) l (walked .steady-walk .last .1 .1 .1 .1 .0) in
     record {

@@ -234,10 +234,9 @@ loop-again c =
     let mask : maskCalled (start .args .st .configs) (stepped .steady-step .result .moment .called) ≡ start .args .from .steady .called = sym (c .before .before .mask-called .ensures .0) ∙ (omega (arith, c .if1 .left)) in
     let same = stays-steady (start .args .st) (start .args .from .steady) (pre .kept .is-on) (pre .unmoved) (at .loop .ran + 1) (energies′ put) (fuels′ put) _ mask in
     let run : List SetState → Run = λ l. runOf (stepped .steady-step .result .moment) l (decided′ put) in
-    let began : ℕ → Run = λ k. runOf (start .args .from .moment) (sinceSteady (start .args .from .steady .states) (start .args .from .steady .on) k (now (start .args .energies)) (now (start .args .fuels))) (now (start .args .decided)) in
-    (
+    let began : ℕ → Run = λ k. runOf (start .args .from .moment) (sinceSteady (start .args .from .steady .states) (start .args .from .steady .on) k (now (start .args .energies)) (now (start .args .fuels))) (now (start .args .decided)) in (
       subst (λ (k : ℕ). Works (start .args .st) (began k) (inputsEach (now (start .args .inputs))) (now (start .args .rows)) (at .loop .ran + 1) (run (sinceSteady (start .args .from .steady .states) (start .args .from .steady .on) (at .loop .ran + 1) (energies′ put) (fuels′ put))) (rows′ put)) (pre .at-start)
-      (subst (λ (l : List SetState). Works (start .args .st) (began (start .args .from .ran)) (inputsEach (now (start .args .inputs))) (now (start .args .rows)) (at .loop .ran + 1) (run l) (rows′ put)) same (worked put)),
+          (subst (λ (l : List SetState). Works (start .args .st) (began (start .args .from .ran)) (inputsEach (now (start .args .inputs))) (now (start .args .rows)) (at .loop .ran + 1) (run l) (rows′ put)) same (worked put)),
       mask,
       omega arith,
       stepped .steady-step .kept .1 .1 .1 .1 .0 ∙ at .loop .inv .3,

@@ -96,8 +96,7 @@ steady-seconds-requires : tie.Need-steady-seconds-requires
 steady-seconds-requires c κs =
     let kept = c .before .before .before in
     let steady = kept .before .before .before .steady-for .ensures in
-    let unmoved = steady .unmoved (omega (arith, few kept .0, few kept .1)) in
-    (
+    let unmoved = steady .unmoved (omega (arith, few kept .0, few kept .1)) in (
       workable kept,
       kept .kept .ensures .0,
       subst (λ (l : List SetState). unmovedAll l (kept .kept .result .called) ≡ true) (sym (states-are kept)) (subst (λ (k : ℕ). unmovedAll (start kept .args .states) k ≡ true) (sym (called-is kept)) unmoved),
