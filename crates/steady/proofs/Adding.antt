@@ -6,7 +6,7 @@ use mathlib.Core.Bool.{true, false}
 use mathlib.Core.List.{List}
 use native.Mathlib.Omega.{arith}
 use native.Mathlib.Numerals.{add-one}
-use native.Mathlib.Nat.{le-trans, mul-zero, mul-le-mul, mul-le-mul-left, zero-div, div-mul-le-self, le-div-iff-mul-le}
+use native.Mathlib.Nat.{le-trans, mul-zero, mul-le-mul-left, zero-div, div-mul-le-self, le-div-iff-mul-le}
 use lib.ListN.{getD, set}
 use lib.Seq.{set-getD}
 use Rattle.rules.specs.declared.station.GenSet.{GenSet}
@@ -76,14 +76,11 @@ module _ {sets : List GenSet} {mask diesel cap : ℕ} {energies fuels : List ℕ
         let e : suc i + (7 - i) ≡ 8 = omega arith in
         rw (h .is-cap) (rw e at (weighed-rises (ratingOf sets) mask (suc i) (7 - i)))
 
-    pub some-capacity : 0 < cap
+    some-capacity : 0 < cap
     some-capacity = omega (arith, within-capacity, one-more, rating-range (setAt sets i) (h .numbers i l on) .0)
 
     cap-small : cap ≤ 80_000_000
     cap-small = rw (h .is-cap) (h .capacity-most)
-
-    diesel-cap : diesel ≤ cap
-    diesel-cap = rw (h .is-cap) (h .diesel-most)
 
     pub rating-small : ratingOf sets i ≤ 10_000_000
     rating-small = rating-range (setAt sets i) (h .numbers i l on) .1
@@ -99,38 +96,40 @@ module _ {sets : List GenSet} {mask diesel cap : ℕ} {energies fuels : List ℕ
       sum-is : getD sums i 0 ≡ runningTotal sets mask (suc i)
       sum-is = t .summed i l on
 
-      pub product-small : diesel * getD sums i 0 ≤ 80_000_000 * 80_000_000
-      product-small = rw sum-is (mul-le-mul (le-trans diesel-cap cap-small) (le-trans within-capacity cap-small))
+      pub sum-small : getD sums i 0 ≤ 80_000_000
+      sum-small = rw sum-is (le-trans within-capacity cap-small)
 
-      pub given-rises : given ≤ diesel * getD sums i 0 / cap
-      given-rises =
-          let more : runningTotal sets mask i ≤ runningTotal sets mask (suc i) = omega (arith, one-more) in
-          rw (now .gave, sum-is) (le-div-iff-mul-le some-capacity .1 (le-trans (div-mul-le-self (diesel * runningTotal sets mask i) cap) (mul-le-mul-left diesel more)))
+      -- what the sets up to this one take together
+      module _ {together : ℕ} (e : together ≡ diesel * getD sums i 0 / cap) where
+        pub given-rises : given ≤ together
+        given-rises =
+            let more : runningTotal sets mask i ≤ runningTotal sets mask (suc i) = omega (arith, one-more) in
+            rw (e, now .gave, sum-is) (le-div-iff-mul-le some-capacity .1 (le-trans (div-mul-le-self (diesel * runningTotal sets mask i) cap) (mul-le-mul-left diesel more)))
 
-      takes-share : diesel * getD sums i 0 / cap - given ≡ share sets mask diesel i
-      unfolding share
-      takes-share = rw (now .gave, sum-is, h .is-cap)
+        takes-share : together - given ≡ share sets mask diesel i
+        unfolding share
+        takes-share = rw (e, now .gave, sum-is, h .is-cap)
 
-      pub takes-rating : diesel * getD sums i 0 / cap - given ≤ ratingOf sets i
-      takes-rating = rw takes-share (share-most sets mask diesel (h .diesel-most) i)
+        pub takes-rating : together - given ≤ ratingOf sets i
+        takes-rating = rw takes-share (share-most sets mask diesel (h .diesel-most) i)
 
-      pub readable : Readable (setAt sets i) lines (i * 20) (diesel * getD sums i 0 / cap - given)
-      readable = record {
-        in-rule = record { numbers = h .numbers i l on; pairs = h .pairs i l on };
-        room = omega arith;
-        curve = t .curve i l on;
-        power-most = takes-rating;
-      }
+        pub readable : Readable (setAt sets i) lines (i * 20) (together - given)
+        readable = record {
+          in-rule = record { numbers = h .numbers i l on; pairs = h .pairs i l on };
+          room = omega arith;
+          curve = t .curve i l on;
+          power-most = takes-rating;
+        }
 
-      pub adding-more : (rate : ℕ) → rate ≡ fuelRate (setAt sets i) (diesel * getD sums i 0 / cap - given)
-          → Adding sets mask diesel cap energies fuels (nextSet mask (i + 1)) (diesel * getD sums i 0 / cap)
-          (set adds i (getD adds i 0 + (diesel * getD sums i 0 / cap - given))) (set burns i (getD burns i 0 + rate))
-      unfolding energyAt fuelAt
-      adding-more rate e =
-          let p : getD adds i 0 + (diesel * getD sums i 0 / cap - given) ≡ energyAt sets mask diesel energies i = rw (own-energy, takes-share, on) in
-          let q : getD burns i 0 + rate ≡ fuelAt sets mask diesel fuels i = rw (e, own-fuel, takes-share, on) in
-          up-to-next (i + 1) (omega arith) (record {
-            gave = rw (sum-is, add-one i);
-            added = filling-more _ _ 8 i adds (now .added) l _ p;
-            burned = filling-more _ _ 8 i burns (now .burned) l _ q;
-          })
+        pub adding-more : (rate : ℕ) → rate ≡ fuelRate (setAt sets i) (together - given)
+            → Adding sets mask diesel cap energies fuels (nextSet mask (i + 1)) together
+            (set adds i (getD adds i 0 + (together - given))) (set burns i (getD burns i 0 + rate))
+        unfolding energyAt fuelAt
+        adding-more rate f =
+            let p : getD adds i 0 + (together - given) ≡ energyAt sets mask diesel energies i = rw (own-energy, takes-share, on) in
+            let q : getD burns i 0 + rate ≡ fuelAt sets mask diesel fuels i = rw (f, own-fuel, takes-share, on) in
+            up-to-next (i + 1) (omega arith) (record {
+              gave = rw (e, sum-is, add-one i);
+              added = filling-more _ _ 8 i adds (now .added) l _ p;
+              burned = filling-more _ _ 8 i burns (now .burned) l _ q;
+            })

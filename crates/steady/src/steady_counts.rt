@@ -9,6 +9,7 @@ ghost use Rattle.steady.specs.Steady.{ranFor, sinceSteady, energiesAfter
 use crate::curve_table::burned_at;
 use crate::next_event::waited;
 use dispatch::commands::has_set;
+use gensets::share::upto;
 use rules::run::SetState;
 use rules::station::GenSet;
 use words::masks::next_set;
@@ -20,7 +21,7 @@ pub(crate) fn count_steady(
     lines: &[u64; 160],
     mask: u32,
     diesel: u32,
-    cap: u64,
+    cap: u32,
     energies: &mut [u64],
     fuels: &mut [u64],
 )
@@ -33,9 +34,9 @@ pub(crate) fn count_steady(
         let at = place as usize;
         let genset = sets[at];
         // each less what the sets before it took: rounded alone, the shares would miss the diesel power
-        let upto = (diesel as u64) * sums[at] / cap;
-        let power = upto - given;
-        given = upto;
+        let together = upto(diesel, sums[at] as u32, cap);
+        let power = together - given;
+        given = together;
         let burns = burned_at(genset, at, lines, power);
         energies[at] = energies[at] + power;
         fuels[at] = fuels[at] + burns;

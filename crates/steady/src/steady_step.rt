@@ -77,7 +77,7 @@ pub(crate) fn steady_step(
         lines,
         on,
         watts.diesel,
-        steady.cap as u64,
+        steady.cap,
         energies,
         fuels,
     );

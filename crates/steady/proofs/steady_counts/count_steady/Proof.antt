@@ -8,7 +8,7 @@ use Rattle.words.proofs.Walk.{Place, place, forward}
 use Rattle.modes.proofs.Filled.{filling-whole}
 use Rattle.steady.specs.Steady.{energiesAfter, fuelsAfter, Addable}
 use Rattle.steady.specs.CurveTable.{Tabled}
-use Rattle.steady.proofs.Adding.{Adding, adding-start, adding-more, product-small, some-capacity, given-rises, takes-rating, rating-small, energy-small, fuel-small, readable}
+use Rattle.steady.proofs.Adding.{Adding, adding-start, adding-more, sum-small, given-rises, takes-rating, rating-small, energy-small, fuel-small, readable}
 use Rattle.steady.proofs.steady_counts.count_steady.Statement.{statement}
 use Rattle.steady.proofs.steady_counts.count_steady.Tie as tie
 
@@ -42,66 +42,63 @@ mul-upto c = search needs
 element-copy-out-upto : tie.Need-element-copy-out-upto Inv-loop μ-loop
 element-copy-out-upto c = search needs
 
-mul-upto-2 : tie.Need-mul-upto-2 Inv-loop μ-loop
-mul-upto-2 c =
+cast-upto : tie.Need-cast-upto Inv-loop μ-loop
+cast-upto c =
     let at = c .before .before .before .loop in
     let l : at .place < 8 = c .before .before .loop-test .taken in
-    record { fits = omega (arith, product-small (at .inv .0) (at .inv .3) (at .inv .2) l (at .inv .1)) }
+    record { fits = omega (arith, sum-small (at .inv .0) (at .inv .3) (at .inv .2) l (at .inv .1)) }
 
-div-upto : tie.Need-div-upto Inv-loop μ-loop
-div-upto c =
-    let at = c .before .before .before .loop in
-    let l : at .place < 8 = c .before .before .loop-test .taken in
-    omega (arith, some-capacity (at .inv .0) (at .inv .3) (at .inv .2) l)
+upto-requires : tie.Need-upto-requires Inv-loop μ-loop
+upto-requires c κs = search needs
 
 sub-power : tie.Need-sub-power Inv-loop μ-loop
 sub-power c =
-    let at = c .before .before .before .loop in
-    let l : at .place < 8 = c .before .before .loop-test .taken in
-    given-rises (at .inv .0) (at .inv .3) (at .inv .2) l (at .inv .1)
+    let at = c .before .before .before .before .loop in
+    let l : at .place < 8 = c .before .before .before .loop-test .taken in
+    given-rises (at .inv .0) (at .inv .3) (at .inv .2) l (at .inv .1) (c .upto .ensures)
 
 burned-at-requires : tie.Need-burned-at-requires Inv-loop μ-loop
 unfolding setAt pastEnd
 burned-at-requires c κs =
-    let at = c .before .before .before .loop in
-    let l : at .place < 8 = c .before .before .loop-test .taken in
-    readable (at .inv .0) (at .inv .3) (at .inv .2) l (at .inv .1)
+    let at = c .before .before .before .before .loop in
+    let l : at .place < 8 = c .before .before .before .loop-test .taken in
+    readable (at .inv .0) (at .inv .3) (at .inv .2) l (at .inv .1) (c .upto .ensures)
 
 mul-energies : tie.Need-mul-energies Inv-loop μ-loop
 mul-energies c = omega arith
 
 slice-read-energies : tie.Need-slice-read-energies Inv-loop μ-loop
-slice-read-energies c = let at = c .before .before .before .before .before .loop in omega (arith, at .inv .3 .added .size)
+slice-read-energies c = let at = c .before .before .before .before .before .before .loop in omega (arith, at .inv .3 .added .size)
 
 add-energies : tie.Need-add-energies Inv-loop μ-loop
 add-energies c =
-    let at = c .before .before .before .before .before .loop in
-    let l : at .place < 8 = c .before .before .before .before .loop-test .taken in
-    omega (arith, takes-rating (at .inv .0) (at .inv .3) (at .inv .2) l (at .inv .1), rating-small (at .inv .0) (at .inv .3) (at .inv .2) l, energy-small (at .inv .0) (at .inv .3) (at .inv .2) l)
+    let at = c .before .before .before .before .before .before .loop in
+    let l : at .place < 8 = c .before .before .before .before .before .loop-test .taken in
+    omega (arith, takes-rating (at .inv .0) (at .inv .3) (at .inv .2) l (at .inv .1) (c .before .before .upto .ensures), rating-small (at .inv .0) (at .inv .3) (at .inv .2) l, energy-small (at .inv .0) (at .inv .3) (at .inv .2) l)
 
 mul-energies-2 : tie.Need-mul-energies-2 Inv-loop μ-loop
 mul-energies-2 c = omega arith
 
 slice-write-energies : tie.Need-slice-write-energies Inv-loop μ-loop
-slice-write-energies c = let at = c .before .before .before .before .before .loop in omega (arith, at .inv .3 .added .size)
+slice-write-energies c = let at = c .before .before .before .before .before .before .loop in omega (arith, at .inv .3 .added .size)
 
 mul-fuels : tie.Need-mul-fuels Inv-loop μ-loop
 mul-fuels c = omega arith
 
 slice-read-fuels : tie.Need-slice-read-fuels Inv-loop μ-loop
-slice-read-fuels c = let at = c .before .before .before .before .before .before .loop in omega (arith, at .inv .3 .burned .size)
+slice-read-fuels c = let at = c .before .before .before .before .before .before .before .loop in omega (arith, at .inv .3 .burned .size)
 
 add-fuels : tie.Need-add-fuels Inv-loop μ-loop
 add-fuels c =
-    let at = c .before .before .before .before .before .before .loop in
-    let l : at .place < 8 = c .before .before .before .before .before .loop-test .taken in
+    let at = c .before .before .before .before .before .before .before .loop in
+    let l : at .place < 8 = c .before .before .before .before .before .before .loop-test .taken in
     omega (arith, c .before .before .burned-at .ensures .1, fuel-small (at .inv .0) (at .inv .3) (at .inv .2) l)
 
 mul-fuels-2 : tie.Need-mul-fuels-2 Inv-loop μ-loop
 mul-fuels-2 c = omega arith
 
 slice-write-fuels : tie.Need-slice-write-fuels Inv-loop μ-loop
-slice-write-fuels c = let at = c .before .before .before .before .before .before .loop in omega (arith, at .inv .3 .burned .size)
+slice-write-fuels c = let at = c .before .before .before .before .before .before .before .loop in omega (arith, at .inv .3 .burned .size)
 
 add-next-set : tie.Need-add-next-set Inv-loop μ-loop
 add-next-set c = search needs
@@ -115,9 +112,9 @@ loop-less c = omega (arith, forward _ _ _ (c .next-set2 .ensures))
 loop-again : tie.Need-loop-again Inv-loop μ-loop
 unfolding setAt pastEnd
 loop-again c =
-    let at = c .before .before .before .before .before .before .before .loop in
-    let l : at .place < 8 = c .before .before .before .before .before .before .loop-test .taken in
-    rw (c .next-set2 .ensures) (at .inv .0, at .inv .1, place _ (at .place + 1) (omega arith), adding-more (at .inv .0) (at .inv .3) (at .inv .2) l (at .inv .1) _ (c .before .before .before .burned-at .ensures .0))
+    let at = c .before .before .before .before .before .before .before .before .loop in
+    let l : at .place < 8 = c .before .before .before .before .before .before .before .loop-test .taken in
+    rw (c .next-set2 .ensures) (at .inv .0, at .inv .1, place _ (at .place + 1) (omega arith), adding-more (at .inv .0) (at .inv .3) (at .inv .2) l (at .inv .1) (c .before .before .before .before .upto .ensures) _ (c .before .before .before .burned-at .ensures .0))
 
 same-length : tie.Need-same-length Inv-loop μ-loop
 same-length c = let at = c .before .loop in at .inv .3 .added .size ∙ sym (at .inv .0 .energies-length)
@@ -144,8 +141,8 @@ count-steady-spec =
     array-copy-out-genset
     mul-upto
     element-copy-out-upto
-    mul-upto-2
-    div-upto
+    cast-upto
+    upto-requires
     sub-power
     burned-at-requires
     mul-energies

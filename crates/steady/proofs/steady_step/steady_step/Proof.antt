@@ -23,13 +23,10 @@ meet-load-requires c κs = search needs
 decide-requires : tie.Need-decide-requires
 decide-requires c κs = search needs
 
-cast-count-steady : tie.Need-cast-count-steady
-cast-count-steady c = search needs
-
 count-steady-requires : tie.Need-count-steady-requires
 count-steady-requires c κs =
-    let met = c .before .before .before .before .before .before .before .before in
-    let start = c .before .before .before .before .before .before .before .before .before .before .before .before .before .before .before .before in
+    let met = c .before .before .before .before .before .before .before in
+    let start = c .before .before .before .before .before .before .before .before .before .before .before .before .before .before .before in
     (addable (start .args .st) (tables start) (start .args .steady) (start .args .standing) (start .pre .0) (start .pre .1) (now (start .args .energies)) (now (start .args .fuels)) (now (start .args .decided)) (start .args .inputs) (start .pre .2) (now (start .args .caps)) (start .pre .3) (start .pre .4) _ (met .before .oldest .ensures) _ (met .meet-load .ensures) (start .pre .5) (start .pre .6), start .pre .7)
 
 commit-requires : tie.Need-commit-requires
@@ -42,7 +39,7 @@ row-of-requires : tie.Need-row-of-requires
 row-of-requires c κs = search needs
 
 same-length : tie.Need-same-length
-same-length c = c .before .before .before .before .before .before .before .before .before .before .before .before .before .decide .kept .1 .1 .0
+same-length c = c .before .before .before .before .before .before .before .before .before .before .before .before .decide .kept .1 .1 .0
 
 same-length-2 : tie.Need-same-length-2
 same-length-2 c = search needs
@@ -54,9 +51,9 @@ returns : tie.Need-returns
 returns c =
     let committed = c .before .before in
     let added = c .before .before .before .before .before .before .before in
-    let left = c .before .before .before .before .before .before .before .before .before .before .before .before .before in
-    let met = c .before .before .before .before .before .before .before .before .before .before .before .before .before .before .before .before in
-    let start = c .before .before .before .before .before .before .before .before .before .before .before .before .before .before .before .before .before .before .before .before .before .before .before .before in
+    let left = c .before .before .before .before .before .before .before .before .before .before .before .before in
+    let met = c .before .before .before .before .before .before .before .before .before .before .before .before .before .before .before in
+    let start = c .before .before .before .before .before .before .before .before .before .before .before .before .before .before .before .before .before .before .before .before .before .before .before in
     steady-stepped (start .args .st) (tables start) (start .args .steady) (start .args .standing) (start .pre .0) (start .pre .1) (now (start .args .energies)) (now (start .args .fuels)) (now (start .args .decided)) (start .args .inputs) (start .pre .2) (now (start .args .caps)) (start .pre .3) (start .pre .4) _ (met .before .oldest .ensures) _ (met .meet-load .ensures) _ (left .decide .ensures) _ _ (added .count-steady .ensures .0) (added .count-steady .ensures .1) _ (committed .commit .ensures) _ (c .before .moment-after .ensures) (c .row-of .ensures)
 
 pub steady-step-spec : {M : Type 1} → statement M
@@ -66,7 +63,6 @@ steady-step-spec =
     oldest-requires
     meet-load-requires
     decide-requires
-    cast-count-steady
     count-steady-requires
     commit-requires
     moment-after-requires
