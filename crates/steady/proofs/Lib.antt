@@ -8,3 +8,4 @@ pub mod SteadySteps
 pub mod Walking
 pub mod SteadyEnds
 pub mod Fillable
+pub mod SameRows
