@@ -12,7 +12,7 @@ use Rattle.rules.specs.Numbers.{if_then_else_}
 use Rattle.rules.specs.SampleFile.{holding}
 use Rattle.rules.specs.Run.{inputsOf}
 use Rattle.samples.specs.Held.{heldFrom, inputsIn}
-use Rattle.course.specs.Rows.{Right, AllRight, none, more}
+use Rattle.course.specs.Ruled.{Right, AllRight, none, more}
 use Rattle.course.specs.Coming.{inputsAll}
 
 -- the row in force at a second

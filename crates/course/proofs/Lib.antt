@@ -1,5 +1,4 @@
 -- The seconds worked, their inputs, and what a call and a beginning owe.
-pub mod RowLaws
 pub mod Worked
 pub mod InputsRight
 pub mod HandedOver

@@ -14,6 +14,8 @@ use Rattle.rules.specs.declared.run.Worked.{Worked}
 use Rattle.rules.specs.declared.samples.Sample.{Sample}
 use Rattle.rules.specs.Answers.{isAccepted}
 use Rattle.rules.specs.Seconds.{inputsEach, numbersOf, Came, cameTo, Seconds}
+use Rattle.dispatch.specs.Working.{rowsOf, runAfter}
+use Rattle.dispatch.proofs.Working.{rows-count}
 use Rattle.samples.specs.declared.inputs.InputSource.{InputSource}
 use Rattle.samples.specs.declared.inputs.Filled.{Filled}
 use Rattle.samples.specs.ToCome.{RowsRead, allRead}
@@ -24,10 +26,9 @@ use Rattle.samples.proofs.EndLaws.{source-accepted}
 use Rattle.course.specs.declared.state.Course.{Course}
 use Rattle.course.specs.declared.state.Halt.{Halt}
 use Rattle.course.specs.declared.state.Moved.{Moved}
-use Rattle.course.specs.Rows.{rowsOf, runAfter, AllRuled, AllRight}
+use Rattle.course.specs.Ruled.{AllRuled, AllRight}
 use Rattle.course.specs.Coming.{inputsAll, Coming, ComesOn, unended, weight}
 use Rattle.course.specs.Moves.{HaltedFor, Moves, withSource, waitingFor, NoInputs, haltFor, withSeconds, cameIn, SecondsMoved}
-use Rattle.course.proofs.RowLaws.{rows-length}
 use Rattle.course.proofs.Worked.{Some, some-worked, All, all-worked}
 use Rattle.course.proofs.InputsRight.{held-right, first-right, drop-right, in-length}
 
@@ -89,7 +90,7 @@ seconds-move c source next xs inputs lent left w e s =
 pub worked-few : (c : Course) (inputs lent left : List ℕ) (w : Worked) (xs : List Inputs) → inputsEach inputs ≡ xs → Seconds (c .station) (c .run) inputs lent w left → w .seconds ≤ length xs
 worked-few c inputs lent left w xs e s =
     let m = some-worked (c .station) (c .run) (inputsEach inputs) (length lent / 13) in
-    omega (arith, s .counts, ap length (m .rows-is), rows-length (c .station) (m .worked) (c .run), ap length (m .are), length-append (m .worked) (m .others), ap length e)
+    omega (arith, s .counts, ap length (m .rows-is), rows-count (c .station) (m .worked) (c .run), ap length (m .are), length-append (m .worked) (m .others), ap length e)
 
 module _ (c : Course) (chunk : List ℕ) (at : ℕ) (ended : Bool) (lent : List ℕ)
     (loads₀ solars₀ sheddables₀ loads solars sheddables : List ℕ) (f : Filled)
@@ -111,8 +112,8 @@ module _ (c : Course) (chunk : List ℕ) (at : ℕ) (ended : Bool) (lent : List 
       in-length (f .seconds) loads solars sheddables
       (omega (arith, fr .most, fr .keptLoads .size)) (omega (arith, fr .most, fr .keptSolars .size)) (omega (arith, fr .most, fr .keptSheddables .size))
 
-  rows-count : length (came .rows) ≡ length (sm .worked)
-  rows-count = ap length (sm .rows-is) ∙ rows-length (c .station) (sm .worked) (c .run)
+  rows-worked : length (came .rows) ≡ length (sm .worked)
+  rows-worked = ap length (sm .rows-is) ∙ rows-count (c .station) (sm .worked) (c .run)
 
   few : length (sm .worked) ≤ f .seconds
   few = omega (arith, ap length (sm .are), length-append (sm .worked) (sm .others), xs-length)
@@ -149,7 +150,7 @@ module _ (c : Course) (chunk : List ℕ) (at : ℕ) (ended : Bool) (lent : List 
     all-of-them = sm .are ∙ ap (λ (l : List Inputs). sm .worked ++ l) (sm .all (all .ends)) ∙ append-nil (sm .worked)
 
     count-is : length (came .rows) ≡ f .seconds
-    count-is = omega (arith, rows-count, ap length all-of-them, xs-length)
+    count-is = omega (arith, rows-worked, ap length all-of-them, xs-length)
 
     come : Coming after (drop (f .next) chunk ++ rest) others
     come =
@@ -174,7 +175,7 @@ module _ (c : Course) (chunk : List ℕ) (at : ℕ) (ended : Bool) (lent : List 
   lighter : came .ended ≡ AllWorked → weight after < weight c
   lighter e =
       let u = ap unended (fr .ended) in
-      omega (arith, u, rows-count, ap length (sm .are), length-append (sm .worked) (sm .others), ap length (sm .all e), xs-length, fr .most)
+      omega (arith, u, rows-worked, ap length (sm .are), length-append (sm .worked) (sm .others), ap length (sm .all e), xs-length, fr .most)
 
   halts : (e : Ended) → came .ended ≡ e → HaltedFor (haltFor e) c chunk at ended lent (withSeconds c (f .source) (f .next) came)
   halts AllWorked e = lighter e
@@ -185,12 +186,12 @@ module _ (c : Course) (chunk : List ℕ) (at : ℕ) (ended : Bool) (lent : List 
   moves =
       record {
         worked = sm .worked;
-        counts = rows-count;
+        counts = rows-worked;
         ruled = sm .accepts;
-        left-is = omega (arith, rows-count, few, fr .most);
+        left-is = omega (arith, rows-worked, few, fr .most);
         station-is = refl;
         run-is = sm .run-is;
-        rows = ap (λ (n : ℕ). numbersOf (came .rows) ++ drop (13 * n) lent) rows-count ∙ ap (λ (l : List Row). numbersOf l ++ drop (13 * length (sm .worked)) lent) (sm .rows-is);
+        rows = ap (λ (n : ℕ). numbersOf (came .rows) ++ drop (13 * n) lent) rows-worked ∙ ap (λ (l : List Row). numbersOf l ++ drop (13 * length (sm .worked)) lent) (sm .rows-is);
         fits = omega (arith, sm .fits);
         inputs = λ rest h zs k. comes-on rest zs k;
         within = fr .within;

@@ -27,7 +27,7 @@ use Rattle.samples.proofs.UpToRefused.{answer-all}
 use Rattle.samples.proofs.LineLaws.{file-answer}
 use Rattle.samples.proofs.RowsRight.{start-right, source-rows-right}
 use Rattle.course.specs.declared.state.Course.{Course}
-use Rattle.course.specs.Rows.{AllRight, none, more}
+use Rattle.course.specs.Ruled.{AllRight, none, more}
 use Rattle.course.specs.Coming.{inputsAll, Coming}
 use Rattle.course.specs.Begin.{Before}
 use Rattle.course.proofs.InputsRight.{held-length}

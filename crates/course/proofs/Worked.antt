@@ -21,7 +21,8 @@ use Rattle.rules.specs.Second.{step, recordAfter, second, admitted, inputsRight
 use Rattle.rules.specs.Seconds.{ruled, Came, cameOn, cameTo}
 use Rattle.rules.proofs.Shapes.{Tables}
 use Rattle.laws.proofs.Kept.{admitted-of, second-kept}
-use Rattle.course.specs.Rows.{rowsOf, runAfter, AllRuled, Right, AllRight, none, more}
+use Rattle.dispatch.specs.Working.{rowsOf, runAfter}
+use Rattle.course.specs.Ruled.{AllRuled, Right, AllRight, none, more}
 
 module _ (st : Station) where
   -- ---- whatever the inputs are

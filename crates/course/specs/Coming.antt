@@ -12,7 +12,7 @@ use Rattle.rules.proofs.Shapes.{Tables}
 use Rattle.samples.specs.ToCome.{allRead}
 use Rattle.samples.specs.Held.{sourceRows, sourceEnded, heldFrom}
 use Rattle.course.specs.declared.state.Course.{Course}
-use Rattle.course.specs.Rows.{AllRight}
+use Rattle.course.specs.Ruled.{AllRight}
 
 -- a station that some file gives, a possible record, and no more seconds left than a run may have
 pub record Ready (c : Course) : Type 0 where

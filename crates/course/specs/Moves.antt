@@ -7,12 +7,13 @@ use lib.ListN.{length, drop}
 use Rattle.rules.specs.declared.answers.Ended.{Ended}
 use Rattle.rules.specs.declared.run.Inputs.{Inputs}
 use Rattle.rules.specs.Seconds.{numbersOf, Came, cameTo}
+use Rattle.dispatch.specs.Working.{rowsOf, runAfter}
 use Rattle.samples.specs.declared.inputs.InputSource.{InputSource}
 use Rattle.samples.specs.Held.{sourceEnded, placesOf, EndedRight}
 use Rattle.course.specs.declared.state.Course.{Course}
 use Rattle.course.specs.declared.state.Halt.{Halt}
 use Rattle.course.specs.declared.state.Moved.{Moved}
-use Rattle.course.specs.Rows.{rowsOf, runAfter, AllRuled}
+use Rattle.course.specs.Ruled.{AllRuled}
 use Rattle.course.specs.Coming.{Coming, ComesOn, weight}
 
 -- no accepted sample file goes on like this

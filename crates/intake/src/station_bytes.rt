@@ -1,7 +1,7 @@
 // The station file as it arrives in chunks.
 ghost use mathlib.Core.Path.{_≡_};
 ghost use mathlib.Core.List.{List, [], _++_};
-ghost use Prim.Native.Nat.{ℕ, _≤_, min};
+ghost use Prim.Native.Nat.{ℕ};
 ghost use Rattle.rules.specs.StationFile.{stationFile};
 ghost use Rattle.rules.specs.Answers.{judged, valueOr, verdictOf};
 ghost use Rattle.rules.specs.StationRecord.{noStation};
@@ -9,6 +9,7 @@ ghost use Rattle.intake.specs.Stations.{stationWith, isRefused};
 use rules::answers::Verdict;
 use station::reader::Reading;
 use station::reader::read_station;
+use words::arithmetic::lesser;
 
 // "a file has 165 to 676 bytes": one more byte tells that it has too many.
 const MOST_HELD: usize = 677;
@@ -17,12 +18,6 @@ const MOST_HELD: usize = 677;
 pub struct StationBytes {
     pub(crate) bytes: [u8; 677],
     pub(crate) len: usize,
-}
-
-fn lesser(a: usize, b: usize) -> usize
-    ensures { λ r. ⌜ (r ≡ min a b) × (r ≤ a) × (r ≤ b) ⌝ }
-{
-    if a < b { a } else { b }
 }
 
 // No byte yet.

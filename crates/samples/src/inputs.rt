@@ -12,7 +12,6 @@ use crate::reader::Ending;
 use crate::reader::SampleReader;
 use crate::reader::end;
 use crate::reader::kept;
-use crate::reader::lesser;
 use crate::reader::next_row;
 use crate::reader::reader;
 use crate::stage::Found;
@@ -22,6 +21,8 @@ use crate::usual_seconds::told_before;
 use crate::usual_seconds::usual_seconds;
 use rules::answers::Refusal;
 use rules::samples::Sample;
+use words::arithmetic::lesser;
+use words::arithmetic::wide;
 
 // What is known of the rows after the one in force.
 pub enum Ahead {
@@ -73,13 +74,6 @@ struct Reached {
     ahead: Ahead,
     next: usize,
     told: bool,
-}
-
-// A time is cast in a function of its own, so that a sum with a place of a slice cannot wrap.
-pub(crate) fn wide(time: u32) -> usize
-    ensures { λ r. ⌜ (r ≡ time) × (r ≤ 4294967295) ⌝ }
-{
-    time as usize
 }
 
 // The last row, in force once its second has come.

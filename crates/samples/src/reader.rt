@@ -1,6 +1,6 @@
 // The rows of a sample file that comes in chunks of any length: the reader goes in by value and comes back.
 ghost use mathlib.Core.Path.{_≡_};
-ghost use Prim.Native.Nat.{ℕ, _≤_, _<_, min};
+ghost use Prim.Native.Nat.{ℕ, _≤_, _<_};
 ghost use mathlib.Core.Bool.{true};
 ghost use mathlib.Core.List.{List, [], _∷_, _++_};
 ghost use lib.ListN.{length, take};
@@ -27,6 +27,7 @@ use sheet::headings::Columns;
 use sheet::rows::RowRead;
 use sheet::usual::Usual;
 use sheet::usual::usual_row;
+use words::arithmetic::lesser;
 
 // The bytes of the line that has begun, and what the lines before it came to.
 pub struct SampleReader {
@@ -70,12 +71,6 @@ struct Extended {
     line: [u8; 512],
     len: usize,
     fits: bool,
-}
-
-pub(crate) fn lesser(a: usize, b: usize) -> usize
-    ensures { λ r. ⌜ (r ≤ a) × (r ≤ b) × (r ≡ min a b) ⌝ }
-{
-    if a < b { a } else { b }
 }
 
 // "one CR just before it is dropped"

@@ -5,13 +5,13 @@ ghost use Rattle.samples.specs.Held.{toldBefore, toldAt, placesOf, GoesO
 use crate::inputs::Ahead;
 use crate::inputs::Begun;
 use crate::inputs::InputSource;
-use crate::inputs::wide;
 use crate::reader::usual_later;
 use crate::stage::Stage;
 use crate::stage::next_line;
 use rules::samples::Sample;
 use sheet::headings::Columns;
 use sheet::usual::Usual;
+use words::arithmetic::wide;
 
 // So many seconds were told: the row in force and the rows after it; the chunk is to be read on at `next`.
 pub(crate) struct Told {

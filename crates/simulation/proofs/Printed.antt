@@ -20,7 +20,7 @@ use Rattle.samples.specs.ToCome.{placed}
 use Rattle.samples.specs.Streamed.{sheetSpan, spanOf}
 use Rattle.samples.specs.Held.{heldFrom}
 use Rattle.course.specs.declared.state.Course.{Course}
-use Rattle.course.specs.Rows.{rowsOf, runAfter}
+use Rattle.dispatch.specs.Working.{rowsOf, runAfter}
 use Rattle.course.proofs.Started.{started-run, started-coming}
 use Rattle.simulation.specs.declared.state.Phase.{Phase}
 use Rattle.simulation.specs.declared.state.Simulation.{Simulation}

@@ -22,14 +22,15 @@ use Rattle.rows.specs.declared.put_rows.RowsPut.{RowsPut}
 use Rattle.rows.specs.RowLines as lines
 use Rattle.rows.specs.RowLines.{LinesPut}
 use Rattle.rows.proofs.RowLines.{numbers-length, all-put}
+use Rattle.dispatch.specs.Working.{rowsOf}
+use Rattle.dispatch.proofs.Working.{rows-count}
 use Rattle.course.specs.declared.state.Course.{Course}
 use Rattle.course.specs.declared.state.Halt.{Halt}
 use Rattle.course.specs.declared.state.Moved as moves
-use Rattle.course.specs.Rows.{rowsOf, AllRuled}
+use Rattle.course.specs.Ruled.{AllRuled}
 use Rattle.course.specs.Coming as coming
 use Rattle.course.specs.Coming.{Coming}
 use Rattle.course.specs.Moves.{HaltedFor, Moves}
-use Rattle.course.proofs.RowLaws.{rows-length}
 use Rattle.course.proofs.Started.{coming-length}
 use Rattle.simulation.specs.declared.state.Phase.{Phase}
 use Rattle.simulation.specs.declared.state.Simulation.{Simulation}
@@ -90,7 +91,7 @@ module _ (t : Turn) (chunk : List ℕ) (ended : Bool) (out lent : List ℕ) (out
   text-room = omega (arith, rows-short (c .station) tables (mv .worked) (c .run) (mv .ruled), few, asked .want-room, out-in)
 
   size-of : length (numbersOf rows) ≡ 13 * m .seconds
-  size-of = numbers-length rows ∙ ap (λ (n : ℕ). 13 * n) (rows-length (c .station) (mv .worked) (c .run) ∙ sym (mv .counts))
+  size-of = numbers-length rows ∙ ap (λ (n : ℕ). 13 * n) (rows-count (c .station) (mv .worked) (c .run) ∙ sym (mv .counts))
 
   -- the numbers of their rows are handed on
   pub numbers-fit : 13 * m .seconds ≤ length left

@@ -12,8 +12,8 @@ use Rattle.rules.specs.declared.run.Run.{Run}
 use Rattle.rules.specs.declared.run.Row.{Row}
 use Rattle.rules.specs.Row.{rowText}
 use Rattle.rows.specs.RowLines as lines
-use Rattle.course.specs.Rows.{rowsOf, runAfter}
-use Rattle.course.proofs.RowLaws.{rows-split, run-split}
+use Rattle.dispatch.specs.Working.{rowsOf, runAfter}
+use Rattle.dispatch.proofs.Working.{run-on, rows-on}
 use Rattle.simulation.specs.declared.state.Simulation.{Simulation}
 use Rattle.simulation.specs.declared.state.Turn.{Turn}
 use Rattle.simulation.specs.declared.state.Wants.{Wants}
@@ -54,12 +54,12 @@ text-split [] ys = refl
 text-split (x ∷ xs) ys = ap (λ (l : List ℕ). rowText x ++ l) (text-split xs ys) ∙ sym (append-assoc (rowText x) (lines.textOf xs) (lines.textOf ys))
 
 texts-split : (st : Station) (xs ys : List Inputs) (r : Run) → rowTexts st (xs ++ ys) r ≡ rowTexts st xs r ++ rowTexts st ys (runAfter st xs r)
-texts-split st xs ys r = ap lines.textOf (rows-split st xs ys r) ∙ text-split (rowsOf st xs r) (rowsOf st ys (runAfter st xs r))
+texts-split st xs ys r = ap lines.textOf (rows-on st xs ys r) ∙ text-split (rowsOf st xs r) (rowsOf st ys (runAfter st xs r))
 
 pub with-split : (st : Station) (xs ys : List Inputs) (r : Run) → rowsWith st (xs ++ ys) r ≡ rowTexts st xs r ++ rowsWith st ys (runAfter st xs r)
 unfolding rowsWith
 with-split st xs ys r =
-    rw (texts-split st xs ys r, run-split st xs ys r) (append-assoc (rowTexts st xs r) (rowTexts st ys (runAfter st xs r)) (setTexts st (runAfter st ys (runAfter st xs r))))
+    rw (texts-split st xs ys r, run-on st xs ys r) (append-assoc (rowTexts st xs r) (rowTexts st ys (runAfter st xs r)) (setTexts st (runAfter st ys (runAfter st xs r))))
 
 pub with-none : (st : Station) (r : Run) → rowsWith st [] r ≡ setTexts st r
 unfolding rowsWith lines.textOf rowsOf runAfter

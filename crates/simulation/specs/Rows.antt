@@ -7,7 +7,7 @@ use Rattle.rules.specs.declared.run.Inputs.{Inputs}
 use Rattle.rules.specs.declared.run.Run.{Run}
 use Rattle.rules.specs.Row.{setHeading, setLines}
 use Rattle.rows.specs.RowLines as lines
-use Rattle.course.specs.Rows.{rowsOf, runAfter}
+use Rattle.dispatch.specs.Working.{rowsOf, runAfter}
 
 -- the rows of the seconds of these inputs, from a record on
 abbrev pub rowTexts : Station → List Inputs → Run → List ℕ

@@ -11,7 +11,6 @@ use Rattle.intake.proofs.station_bytes.more_station.Statement.{statemen
 use Rattle.intake.proofs.station_bytes.more_station.Tie as tie
 use Rattle.intake.proofs.station_bytes.more_station.Reads as reads
 use Rattle.intake.proofs.station_bytes.more_station.Lts as lts
-use Rattle.intake.proofs.station_bytes.lesser.Reads as lesser-reads
 
 abbrev Inv-loop : tie.InvT-loop
 Inv-loop chunk bytes₀ held i₀ bytes i = (i ≤ length chunk) × (held + length chunk ≤ 677) × (length bytes₀ ≡ 677) × (bytes ≡ paste bytes₀ held chunk i)
@@ -34,7 +33,7 @@ returns c =
     let a = c .before .before .before .before .args in
     let least = c .before .lesser in
     let size : length (a .file .bytes) ≡ 677 = simp length-map at (c .before .before .before .before .good .0 .1 .1 .0 .1 .0 .1) in
-    λ rest. over-held (a .file .bytes) (a .file .len) (least .result) size (least .ensures .0) (a .chunk .now) rest (omega arith)
+    λ rest. over-held (a .file .bytes) (a .file .len) (least .result) size (least .ensures) (a .chunk .now) rest (omega arith)
 
 -- src/station_bytes.rt:52:5
 loop-holds : tie.Need-loop-holds Inv-loop μ-loop
@@ -81,7 +80,7 @@ returns-2 c =
     let l = c .before .loop in
     let least = c .before .before .before .lesser in
     let all : l .i ≡ length (a .chunk .now) = omega arith in
-    λ rest. all-held (a .file .bytes) (a .file .len) (least .result) (l .inv .2) (least .ensures .0) (a .chunk .now) (l .bytes) (l .i) rest (l .inv .3) all
+    λ rest. all-held (a .file .bytes) (a .file .len) (least .result) (l .inv .2) (least .ensures) (a .chunk .now) (l .bytes) (l .i) rest (l .inv .3) all
 
 pub more-station-spec : {M : Type 1} → statement M
 more-station-spec =

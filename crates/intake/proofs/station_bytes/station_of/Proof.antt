@@ -14,7 +14,6 @@ use Rattle.intake.proofs.station_bytes.station_of.Statement.{statement}
 use Rattle.intake.proofs.station_bytes.station_of.Tie as tie
 use Rattle.intake.proofs.station_bytes.station_of.Reads as reads
 use Rattle.intake.proofs.station_bytes.station_of.Lts as lts
-use Rattle.intake.proofs.station_bytes.lesser.Reads as lesser-reads
 use Rattle.station.proofs.reader.read_station.Reads as read-station-reads
 
 -- src/station_bytes.rt:68:9
@@ -44,7 +43,7 @@ returns c =
     let file = c .before .before .before .before .args .file in
     let size : length (file .bytes) ≡ 677 = simp length-map at (c .before .before .before .before .good .0 .1 .1 .0 .1 .0 .1) in
     let least = c .before .before .lesser in
-    let held = held-is (file .bytes) (file .len) (least .result) size (least .ensures .0) in
+    let held = held-is (file .bytes) (file .len) (least .result) size (least .ensures) in
     let is : take (least .result) (file .bytes) ≡ take (file .len) (file .bytes) ++ [] = held ∙ sym (append-nil (take (file .len) (file .bytes))) in
     (c .read-station .ensures .0 ∙ ap (λ (s : List ℕ). judged (stationFile s)) is, c .read-station .ensures .1 ∙ ap (λ (s : List ℕ). valueOr noStation (stationFile s)) is)
 

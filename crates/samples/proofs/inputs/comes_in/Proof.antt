@@ -8,7 +8,6 @@ use Rattle.samples.proofs.inputs.comes_in.Tie as tie
 use Rattle.samples.proofs.inputs.comes_in.Reads as reads
 use Rattle.samples.proofs.inputs.comes_in.Lts as lts
 use Rattle.samples.proofs.inputs.last_comes_in.Reads as last-comes-in-reads
-use Rattle.samples.proofs.inputs.wide.Reads as wide-reads
 
 -- src/inputs.rt:97:26
 enum-told : tie.Need-enum-told

@@ -9,7 +9,6 @@ use Rattle.samples.proofs.inputs.fill.Reads as reads
 use Rattle.samples.proofs.inputs.fill.Lts as lts
 use Rattle.samples.proofs.inputs.fill_seconds.Reads as fill-seconds-reads
 use Rattle.samples.proofs.inputs.source_refused.Reads as source-refused-reads
-use Rattle.samples.proofs.inputs.wide.Reads as wide-reads
 
 -- src/inputs.rt:303:8
 source-refused-requires : tie.Need-source-refused-requires

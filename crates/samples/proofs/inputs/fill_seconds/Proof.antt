@@ -19,7 +19,6 @@ use Rattle.samples.proofs.inputs.filled_at.Reads as filled-at-reads
 use Rattle.samples.proofs.inputs.reach.Reads as reach-reads
 use Rattle.samples.proofs.inputs.reader_at.Reads as reader-at-reads
 use Rattle.samples.proofs.reader.kept.Reads as kept-reads
-use Rattle.samples.proofs.reader.lesser.Reads as lesser-reads
 use Rattle.samples.proofs.usual_seconds.told_before.Reads as told-before-reads
 use Rattle.samples.proofs.usual_seconds.usual_seconds.Reads as usual-seconds-reads
 
@@ -45,7 +44,7 @@ told-before-requires c κs = search needs
 loop-holds : tie.Need-loop-holds Inv-loop μ-loop
 loop-holds c =
     let a = c .before .before .before .before .before .before .before .before .before .before .args in
-    (rw (c .before .before .before .before .lesser2 .ensures .2, c .before .before .before .before .before .lesser .ensures .2), rw (c .told-before .ensures) (filling-start (a .source) (a .first) (a .chunk .now) (a .at) (a .loads .now) (a .solars .now) (a .sheddables .now) _ (c .before .lesser3 .ensures .2)))
+    (rw (c .before .before .before .before .lesser2 .ensures, c .before .before .before .before .before .lesser .ensures), rw (c .told-before .ensures) (filling-start (a .source) (a .first) (a .chunk .now) (a .at) (a .loads .now) (a .solars .now) (a .sheddables .now) _ (c .before .lesser3 .ensures)))
 
 usual-seconds-requires : tie.Need-usual-seconds-requires Inv-loop μ-loop
 usual-seconds-requires c κs = (c .before .before .before .before .before .before .before .before .before .before .before .before .before .before .before .before .pre .0, omega (arith, c .before .before .before .before .before .loop .inv .0, c .before .before .before .before .before .loop .inv .1 .keptLoads .size, c .before .before .before .before .before .loop .inv .1 .keptSolars .size, c .before .before .before .before .before .loop .inv .1 .keptSheddables .size))

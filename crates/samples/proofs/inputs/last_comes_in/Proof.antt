@@ -7,7 +7,6 @@ use Rattle.samples.proofs.inputs.last_comes_in.Statement.{statement}
 use Rattle.samples.proofs.inputs.last_comes_in.Tie as tie
 use Rattle.samples.proofs.inputs.last_comes_in.Reads as reads
 use Rattle.samples.proofs.inputs.last_comes_in.Lts as lts
-use Rattle.samples.proofs.inputs.wide.Reads as wide-reads
 
 -- src/inputs.rt:78:8
 wide-requires : tie.Need-wide-requires

@@ -14,7 +14,6 @@ use Rattle.samples.proofs.inputs.reach.Tie as tie
 use Rattle.samples.proofs.inputs.reach.Reads as reads
 use Rattle.samples.proofs.inputs.reach.Lts as lts
 use Rattle.samples.proofs.inputs.comes_in.Reads as comes-in-reads
-use Rattle.samples.proofs.reader.lesser.Reads as lesser-reads
 use Rattle.samples.proofs.reader.next_row.Reads as next-row-reads
 
 abbrev Inv-loop : tie.InvT-loop
@@ -33,7 +32,7 @@ comes-in-requires c κs = search needs
 
 -- src/inputs.rt:164:5
 loop-holds : tie.Need-loop-holds Inv-loop μ-loop
-loop-holds c = λ now ahead is. reaching-start _ (c .before .before .before .args .line .now) now ahead _ (c .before .before .before .args .chunk .now) (c .before .before .before .args .at) _ _ (c .before .lesser .ensures .2) is
+loop-holds c = λ now ahead is. reaching-start _ (c .before .before .before .args .line .now) now ahead _ (c .before .before .before .args .chunk .now) (c .before .before .before .args .at) _ _ (c .before .lesser .ensures) is
 
 -- src/inputs.rt:165:13
 next-row-requires : tie.Need-next-row-requires Inv-loop μ-loop

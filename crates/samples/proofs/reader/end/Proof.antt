@@ -15,7 +15,6 @@ use Rattle.samples.proofs.reader.end.Tie as tie
 use Rattle.samples.proofs.reader.end.Reads as reads
 use Rattle.samples.proofs.reader.end.Lts as lts
 use Rattle.samples.proofs.reader.ended_at.Reads as ended-at-reads
-use Rattle.samples.proofs.reader.lesser.Reads as lesser-reads
 use Rattle.samples.proofs.reader.whole_line.Reads as whole-line-reads
 
 -- src/reader.rt:220:9
@@ -32,7 +31,7 @@ unfolding yetToCome
 returns c =
     let m = c .before .before .before .before .args .reader in
     let size : length (m .line) ≡ 512 = simp length-map at (c .before .before .before .before .good .0 .1 .1 .0 .1 .0 .1) in
-    let held = held-is (m .line) [] (m .len) (c .before .before .lesser .result) size (c .before .before .lesser .ensures .2) in
+    let held = held-is (m .line) [] (m .len) (c .before .before .lesser .result) size (c .before .before .lesser .ensures) in
     let none = sym held ∙ ap (λ (n : ℕ). take n (m .line)) (c .before .if1 .taken) in
     c .ended-at .ensures ∙ sym (ap (toCome (m .stage)) (ap (λ (s : List ℕ). linesAfter s []) none ∙ line-at-end []))
 
@@ -63,7 +62,7 @@ returns-2 c =
     let m = c .before .before .before .before .before .before .args .reader in
     let n = c .before .before .before .before .lesser .result in
     let size : length (m .line) ≡ 512 = simp length-map at (c .before .before .before .before .before .before .good .0 .1 .1 .0 .1 .0 .1) in
-    let held = held-is (m .line) [] (m .len) n size (c .before .before .before .before .lesser .ensures .2) in
+    let held = held-is (m .line) [] (m .len) n size (c .before .before .before .before .lesser .ensures) in
     let whole : length (take n (m .line)) ≡ n = simp length-take (omega arith) in
     let last = last-line (take n (m .line)) (omega arith) in
     c .ended-at2 .ensures ∙ sym (c .before .whole-line .ensures []) ∙ sym (ap (toCome (m .stage)) (ap (λ (s : List ℕ). linesAfter s []) (sym held) ∙ last))

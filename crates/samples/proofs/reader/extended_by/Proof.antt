@@ -11,7 +11,6 @@ use Rattle.samples.proofs.reader.extended_by.Statement.{statement}
 use Rattle.samples.proofs.reader.extended_by.Tie as tie
 use Rattle.samples.proofs.reader.extended_by.Reads as reads
 use Rattle.samples.proofs.reader.extended_by.Lts as lts
-use Rattle.samples.proofs.reader.lesser.Reads as lesser-reads
 
 abbrev Inv-loop : tie.InvT-loop
 Inv-loop len more held whole₀ i₀ whole i = (i ≤ length more) × (held + length more ≤ 512) × (length whole₀ ≡ 512) × (whole ≡ paste whole₀ held more i)
@@ -31,7 +30,7 @@ sub-if1 c = search needs
 returns : tie.Need-returns Inv-loop μ-loop
 returns c =
     let a = c .before .before .before .args in
-    let over = whole-over (a .line) (a .more .now) (a .len) (c .before .lesser .result) (omega arith) (c .before .lesser .ensures .2) (omega arith) in
+    let over = whole-over (a .line) (a .more .now) (a .len) (c .before .lesser .result) (omega arith) (c .before .lesser .ensures) (omega arith) in
     (over, (λ fits. never fits, omega arith, omega arith))
 
 -- src/reader.rt:95:5
@@ -76,7 +75,7 @@ returns-2 c =
     let a = c .before .before .before .before .before .args in
     let l = c .before .loop in
     let held = c .before .before .before .lesser .result in
-    let least = c .before .before .before .lesser .ensures .2 in
+    let least = c .before .before .before .lesser .ensures in
     let all : l .i ≡ length (a .more .now) = omega arith in
     let fits = whole-fits (a .line) (a .more .now) (a .len) held (l .inv .2) least (l .inv .1) in
     let is = whole-is (a .line) (a .more .now) (a .len) held (l .inv .2) least (l .whole) (l .i) (l .inv .3) all in

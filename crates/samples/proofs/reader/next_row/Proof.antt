@@ -15,7 +15,6 @@ use Rattle.samples.proofs.reader.next_row.Statement.{statement}
 use Rattle.samples.proofs.reader.next_row.Tie as tie
 use Rattle.samples.proofs.reader.next_row.Reads as reads
 use Rattle.samples.proofs.reader.next_row.Lts as lts
-use Rattle.samples.proofs.reader.lesser.Reads as lesser-reads
 use Rattle.samples.proofs.reader.line_at.Reads as line-at-reads
 
 abbrev Inv-loop : tie.InvT-loop
@@ -30,7 +29,7 @@ lesser-requires : tie.Need-lesser-requires Inv-loop μ-loop
 lesser-requires c κs = search needs
 
 loop-holds : tie.Need-loop-holds Inv-loop μ-loop
-loop-holds c = (omega (arith, c .lesser .ensures .1), omega (arith, c .lesser .ensures .2), λ rest. rw (c .lesser .ensures .2, drop-least (c .before .before .args .at) (c .before .before .args .chunk .now)))
+loop-holds c = (omega (arith, c .lesser .ensures), omega (arith, c .lesser .ensures), λ rest. rw (c .lesser .ensures, drop-least (c .before .before .args .at) (c .before .before .args .chunk .now)))
 
 line-at-requires : tie.Need-line-at-requires Inv-loop μ-loop
 line-at-requires c κs = search needs

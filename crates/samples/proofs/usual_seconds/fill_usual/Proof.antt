@@ -10,7 +10,6 @@ use Rattle.samples.proofs.usual_seconds.fill_usual.Statement.{statement
 use Rattle.samples.proofs.usual_seconds.fill_usual.Tie as tie
 use Rattle.samples.proofs.usual_seconds.fill_usual.Reads as reads
 use Rattle.samples.proofs.usual_seconds.fill_usual.Lts as lts
-use Rattle.samples.proofs.inputs.wide.Reads as wide-reads
 use Rattle.samples.proofs.reader.usual_later.Reads as usual-later-reads
 use Rattle.samples.proofs.stage.next_line.Reads as next-line-reads
 use Rattle.samples.proofs.usual_seconds.told_at.Reads as told-at-reads

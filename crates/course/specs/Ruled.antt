@@ -1,26 +1,15 @@
--- Document 01, the seconds of a run one after the other: their rows and the record after them, by the seconds' own steps.
+-- Document 01, the seconds of a run one after the other, of which the rules refuse none; and inputs for which they refuse none.
 use Prim.Native.Nat.{_≤_}
 use mathlib.Core.Path.{_≡_}
 use mathlib.Core.List.{List, [], _∷_}
 use Rattle.rules.specs.declared.station.Station.{Station}
 use Rattle.rules.specs.declared.run.Inputs.{Inputs}
-use Rattle.rules.specs.declared.run.Row.{Row}
 use Rattle.rules.specs.declared.run.Run.{Run}
 use Rattle.rules.specs.Answers.{accepted}
 use Rattle.rules.specs.Second.{step}
 use Rattle.rules.specs.Seconds.{ruled}
 
--- the rows of the seconds of these inputs, from a record on
-unfoldable pub rowsOf : Station → List Inputs → Run → List Row
-rowsOf st [] r = []
-rowsOf st (x ∷ xs) r = step st r x .row ∷ rowsOf st xs (step st r x .run)
-
--- the record after them
-unfoldable pub runAfter : Station → List Inputs → Run → Run
-runAfter st [] r = r
-runAfter st (x ∷ xs) r = runAfter st xs (step st r x .run)
-
--- the rules refuse none of them
+-- the rules refuse none of the seconds of these inputs, from a record on
 unfoldable pub AllRuled : Station → List Inputs → Run → Type 0
 AllRuled st [] r = Unit {0}
 AllRuled st (x ∷ xs) r = (ruled st r x ≡ accepted (step st r x)) × AllRuled st xs (step st r x .run)
