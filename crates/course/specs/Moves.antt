@@ -96,6 +96,6 @@ pub record SecondsMoved (c : Course) (source : InputSource) (next : ℕ) (xs : L
 -- what a call of some seconds may take for granted: no more places in the slices than seconds are left and rows are lent
 pub record SomeAsked (c : Course) (loads solars sheddables lent : List ℕ) : Type 0 where
   pub some : 1 ≤ placesOf loads solars sheddables
-  pub most : placesOf loads solars sheddables ≤ 512
+  pub most : placesOf loads solars sheddables ≤ 256
   pub want-left : placesOf loads solars sheddables ≤ c .left
   pub want-room : placesOf loads solars sheddables ≤ length lent / 13

@@ -18,7 +18,7 @@ use words::arithmetic::lesser;
 use words::arithmetic::wide;
 
 // The most seconds of one call.
-const MOST_BATCH: usize = 512;
+const MOST_BATCH: usize = 256;
 
 // A row's numbers.
 const ROW_NUMBERS: usize = 13;
@@ -26,7 +26,7 @@ const ROW_NUMBERS: usize = 13;
 // How many seconds one call works: as many as have places for their rows.
 fn batch(left: u32, places: usize) -> usize
     requires { ⌜ (1 ≤ left) × (1 ≤ places) ⌝ }
-    ensures { λ r. ⌜ (1 ≤ r) × (r ≤ 512) × (r ≤ left) × (r ≤ places) ⌝ }
+    ensures { λ r. ⌜ (1 ≤ r) × (r ≤ 256) × (r ≤ left) × (r ≤ places) ⌝ }
 {
     lesser(lesser(wide(left), MOST_BATCH), places)
 }
@@ -123,10 +123,10 @@ fn with_inputs(
     sheddables: &[u32],
     rows: &mut [u64],
 ) -> Moved
-    requires { ⌜ (count ≤ 512) × (count ≤ course .left) × (count ≤ length (now loads)) × (count ≤ length (now solars)) × (count ≤ length (now sheddables)) ⌝ }
+    requires { ⌜ (count ≤ 256) × (count ≤ course .left) × (count ≤ length (now loads)) × (count ≤ length (now solars)) × (count ≤ length (now sheddables)) ⌝ }
     ensures { λ r. ⌜ SecondsMoved course source next (inputsIn count (now (loads .entry)) (now (solars .entry)) (now (sheddables .entry))) (now (rows .entry)) r (now (rows .exit)) ⌝ }
 {
-    let mut inputs = [0u32; 1536];
+    let mut inputs = [0u32; 768];
     let numbers = handed_over(count, loads, solars, sheddables, &mut inputs);
     let station = course.station;
     let run = course.run;
@@ -173,7 +173,7 @@ fn some_seconds(
     with_inputs(course, known, next, count, loads, solars, sheddables, rows)
 }
 
-// Works up to 512 seconds with the chunk from a place on, as many as the chunk tells, are left and have a place for their row. `ended`
+// Works up to 256 seconds with the chunk from a place on, as many as the chunk tells, are left and have a place for their row. `ended`
 // says that the sample file has no byte after the chunk.
 pub fn work(course: Course, chunk: &[u8], at: usize, ended: bool, rows: &mut [u64]) -> Moved
     ensures { λ r. ⌜ Moves course (now (chunk .entry)) at ended (now (rows .entry)) r (now (rows .exit)) ⌝ }
@@ -188,9 +188,9 @@ pub fn work(course: Course, chunk: &[u8], at: usize, ended: bool, rows: &mut [u6
         return waiting(course, next, Halt::Room);
     }
     let want = batch(left, places);
-    let mut loads = [0u32; 512];
-    let mut solars = [0u32; 512];
-    let mut sheddables = [0u32; 512];
+    let mut loads = [0u32; 256];
+    let mut solars = [0u32; 256];
+    let mut sheddables = [0u32; 256];
     some_seconds(
         course,
         chunk,

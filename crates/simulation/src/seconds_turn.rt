@@ -19,7 +19,7 @@ use words::arithmetic::lesser;
 use words::arithmetic::wide;
 
 // The most seconds of one turn.
-const MOST_BATCH: usize = 512;
+const MOST_BATCH: usize = 256;
 
 // A row's numbers.
 const ROW_NUMBERS: usize = 13;
@@ -43,7 +43,7 @@ fn least_room(written: usize) -> usize
 // How many seconds one turn works: as many as have room, whatever their rows are.
 fn batch(left: u32, room: usize) -> usize
     requires { ⌜ (0 < left) × (256 ≤ room) ⌝ }
-    ensures { λ r. ⌜ (1 ≤ r) × (r ≤ 512) × (153 * r + 103 ≤ room) ⌝ }
+    ensures { λ r. ⌜ (1 ≤ r) × (r ≤ 256) × (153 * r + 103 ≤ room) ⌝ }
 {
     lesser(
         lesser(wide(left), MOST_BATCH),
@@ -117,7 +117,7 @@ pub(crate) fn seconds_turn(t: Turn, chunk: &[u8], ended: bool, out: &mut [u8]) -
         return waiting(t, Wants::Room);
     }
     let want = batch(left, room);
-    let mut rows = [0u64; 6656];
+    let mut rows = [0u64; 3328];
     let numbers = ROW_NUMBERS * want;
     some_rows(t, chunk, ended, &mut rows[..numbers], out)
 }
