@@ -2,7 +2,7 @@
 """compare_seconds_run.py REFERENCE COUNT
 
 Runs target/bin/second_speed (`rt check second_speed` builds it) for COUNT seconds on Station A and on a station of 8 sets and 64
-configurations, and compares its rows, which `dispatch::seconds` writes batch by batch, byte for byte with those that the independent
+configurations, and compares its rows, which `steady::seconds` writes batch by batch, byte for byte with those that the independent
 reference program prints for a sheet of the same inputs. The calls of `dispatch::second`, one for each second, must come to the same:
 count and checksum of the rows' bytes, store, configuration called and fuel. Says what was met in the rows, and fails where one of it
 never was. The files are written to build/seconds-run.

@@ -1,5 +1,6 @@
 // The eleven steps of a second: the record after it, and its row.
 ghost use mathlib.Core.Path.{_≡_};
+ghost use Rattle.commitment.specs.Commit.{CommittedBy};
 ghost use Rattle.dispatch.specs.Parts.{runOf};
 ghost use Rattle.dispatch.specs.Steps.{SteppedBy};
 use crate::commands::command_all;
@@ -7,6 +8,7 @@ use crate::counts::count_all;
 use crate::parts::Moment;
 use crate::parts::moment_after;
 use crate::parts::row_of;
+use commitment::commit::Committed;
 use commitment::commit::commit;
 use commitment::configuration::capacity_fitting;
 use commitment::configuration::mask_called;
@@ -20,6 +22,7 @@ use modes::tick::tick_all;
 use rules::run::Inputs;
 use rules::run::Row;
 use rules::run::SetState;
+use rules::run::Watts;
 use rules::station::Station;
 
 // What the steps come to: the record after them but for the decided amounts, and the row.
@@ -27,6 +30,33 @@ pub struct Stepped {
     pub moment: Moment,
     pub states: [SetState; 8],
     pub row: Row,
+}
+
+// Steps 9 and 10 of a second that begins at this moment.
+pub fn commit_at(
+    st: Station,
+    caps: &[u32; 64],
+    barred: u32,
+    moment: Moment,
+    watts: Watts,
+    sheddable: u32,
+) -> Committed
+    ensures { λ r. ⌜ CommittedBy st (now (caps .entry)) barred (moment .setpoint) (moment .called) (moment .since) (moment .done) watts sheddable r ⌝ }
+{
+    let setpoint = moment.setpoint;
+    let called = moment.called;
+    let done = moment.done;
+    commit(
+        st,
+        caps,
+        barred,
+        setpoint,
+        called,
+        moment.since,
+        done,
+        watts,
+        sheddable,
+    )
 }
 
 // Whatever station, table of the configurations' capacities and record are handed in. The decided amounts move where they stand.
@@ -55,21 +85,9 @@ pub fn step(
     let watts = met.watts;
     decide(st.control.delay, met.decided, decided);
     let ran = count_all(sets, states, on, watts.diesel);
-    let setpoint = moment.setpoint;
-    let called = moment.called;
     let done = moment.done;
     let barred = barred_mask(sets, ran);
-    let chosen = commit(
-        st,
-        caps,
-        barred,
-        setpoint,
-        called,
-        moment.since,
-        done,
-        watts,
-        inputs.sheddable,
-    );
+    let chosen = commit_at(st, caps, barred, moment, watts, inputs.sheddable);
     let call = chosen.call;
     let configs = st.configs;
     Stepped {

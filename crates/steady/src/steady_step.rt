@@ -8,10 +8,10 @@ ghost use Rattle.steady.specs.NextEvent.{NoEvent};
 ghost use Rattle.steady.specs.CurveTable.{Tabled};
 ghost use Rattle.steady.specs.SteadySecond.{Kept, runAt, SteadyStepped};
 use crate::steady_counts::count_steady;
-use commitment::commit::commit;
 use dispatch::parts::Moment;
 use dispatch::parts::moment_after;
 use dispatch::parts::row_of;
+use dispatch::step::commit_at;
 use flows::amounts::decide;
 use flows::amounts::oldest;
 use flows::meet::meet_load;
@@ -81,23 +81,10 @@ pub(crate) fn steady_step(
         energies,
         fuels,
     );
-    let setpoint = moment.setpoint;
-    let done = moment.done;
-    let called = moment.called;
-    let chosen = commit(
-        st,
-        caps,
-        steady.barred,
-        setpoint,
-        called,
-        moment.since,
-        done,
-        watts,
-        inputs.sheddable,
-    );
+    let chosen = commit_at(st, caps, steady.barred, moment, watts, inputs.sheddable);
     let call = chosen.call;
     Gone {
         moment: moment_after(moment, call, chosen.held, met.store, watts),
-        row: row_of(done, watts, on, call, met.store),
+        row: row_of(moment.done, watts, on, call, met.store),
     }
 }

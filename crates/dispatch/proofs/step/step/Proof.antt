@@ -32,8 +32,8 @@ count-all-requires c κs = search needs
 barred-mask-requires : tie.Need-barred-mask-requires
 barred-mask-requires c κs = search needs
 
-commit-requires : tie.Need-commit-requires
-commit-requires c κs = search needs
+commit-at-requires : tie.Need-commit-at-requires
+commit-at-requires c κs = search needs
 
 moment-after-requires : tie.Need-moment-after-requires
 moment-after-requires c κs = search needs
@@ -53,7 +53,7 @@ same-length c = search needs
 returns : tie.Need-returns
 returns c =
     let a = c .before .before .before .before .before .before .before .before .before .before .before .before .before .before .before .before .before .before .before .before .before .before .args in
-    stepped-by (a .st) (now (a .caps)) (a .before) (a .moment) (now (a .decided)) (a .inputs) _ (c .before .before .before .before .before .before .before .before .before .before .before .before .before .before .before .before .before .before .before .tick-all .ensures) _ (c .before .before .before .before .before .before .before .before .before .before .before .before .before .before .before .before .before .before .on-mask .ensures .0) _ (c .before .before .before .before .before .before .before .before .before .before .before .before .before .before .before .before .before .capacity-fitting .ensures) _ (c .before .before .before .before .before .before .before .before .before .before .before .before .before .before .before .before .floor-load .ensures) _ (c .before .before .before .before .before .before .before .before .before .before .before .before .before .before .oldest .ensures) _ (c .before .before .before .before .before .before .before .before .before .before .before .before .before .meet-load .ensures) _ (c .before .before .before .before .before .before .before .before .before .before .decide .ensures) _ (c .before .before .before .before .before .before .before .count-all .ensures) _ (c .before .before .before .before .before .before .barred-mask .ensures .0) _ (c .before .before .before .before .before .commit .ensures) _ (c .before .before .mask-called .ensures .0) _ (c .before .before .before .moment-after .ensures) (c .before .command-all .ensures) (c .row-of .ensures)
+    stepped-by (a .st) (now (a .caps)) (a .before) (a .moment) (now (a .decided)) (a .inputs) _ (c .before .before .before .before .before .before .before .before .before .before .before .before .before .before .before .before .before .before .before .tick-all .ensures) _ (c .before .before .before .before .before .before .before .before .before .before .before .before .before .before .before .before .before .before .on-mask .ensures .0) _ (c .before .before .before .before .before .before .before .before .before .before .before .before .before .before .before .before .before .capacity-fitting .ensures) _ (c .before .before .before .before .before .before .before .before .before .before .before .before .before .before .before .before .floor-load .ensures) _ (c .before .before .before .before .before .before .before .before .before .before .before .before .before .before .oldest .ensures) _ (c .before .before .before .before .before .before .before .before .before .before .before .before .before .meet-load .ensures) _ (c .before .before .before .before .before .before .before .before .before .before .decide .ensures) _ (c .before .before .before .before .before .before .before .count-all .ensures) _ (c .before .before .before .before .before .before .barred-mask .ensures .0) _ (c .before .before .before .before .before .commit-at .ensures) _ (c .before .before .mask-called .ensures .0) _ (c .before .before .before .moment-after .ensures) (c .before .command-all .ensures) (c .row-of .ensures)
 
 pub step-spec : {M : Type 1} → statement M
 step-spec =
@@ -68,7 +68,7 @@ step-spec =
     decide-requires
     count-all-requires
     barred-mask-requires
-    commit-requires
+    commit-at-requires
     moment-after-requires
     mask-called-requires
     command-all-requires

@@ -29,8 +29,8 @@ count-steady-requires c κs =
     let start = c .before .before .before .before .before .before .before .before .before .before .before .before .before .before .before in
     (addable (start .args .st) (tables start) (start .args .steady) (start .args .standing) (start .pre .0) (start .pre .1) (now (start .args .energies)) (now (start .args .fuels)) (now (start .args .decided)) (start .args .inputs) (start .pre .2) (now (start .args .caps)) (start .pre .3) (start .pre .4) _ (met .before .oldest .ensures) _ (met .meet-load .ensures) (start .pre .5) (start .pre .6), start .pre .7)
 
-commit-requires : tie.Need-commit-requires
-commit-requires c κs = search needs
+commit-at-requires : tie.Need-commit-at-requires
+commit-at-requires c κs = search needs
 
 moment-after-requires : tie.Need-moment-after-requires
 moment-after-requires c κs = search needs
@@ -54,7 +54,7 @@ returns c =
     let left = c .before .before .before .before .before .before .before .before .before .before .before .before in
     let met = c .before .before .before .before .before .before .before .before .before .before .before .before .before .before .before in
     let start = c .before .before .before .before .before .before .before .before .before .before .before .before .before .before .before .before .before .before .before .before .before .before .before in
-    steady-stepped (start .args .st) (tables start) (start .args .steady) (start .args .standing) (start .pre .0) (start .pre .1) (now (start .args .energies)) (now (start .args .fuels)) (now (start .args .decided)) (start .args .inputs) (start .pre .2) (now (start .args .caps)) (start .pre .3) (start .pre .4) _ (met .before .oldest .ensures) _ (met .meet-load .ensures) _ (left .decide .ensures) _ _ (added .count-steady .ensures .0) (added .count-steady .ensures .1) _ (committed .commit .ensures) _ (c .before .moment-after .ensures) (c .row-of .ensures)
+    steady-stepped (start .args .st) (tables start) (start .args .steady) (start .args .standing) (start .pre .0) (start .pre .1) (now (start .args .energies)) (now (start .args .fuels)) (now (start .args .decided)) (start .args .inputs) (start .pre .2) (now (start .args .caps)) (start .pre .3) (start .pre .4) _ (met .before .oldest .ensures) _ (met .meet-load .ensures) _ (left .decide .ensures) _ _ (added .count-steady .ensures .0) (added .count-steady .ensures .1) _ (committed .commit-at .ensures) _ (c .before .moment-after .ensures) (c .row-of .ensures)
 
 pub steady-step-spec : {M : Type 1} → statement M
 steady-step-spec =
@@ -64,7 +64,7 @@ steady-step-spec =
     meet-load-requires
     decide-requires
     count-steady-requires
-    commit-requires
+    commit-at-requires
     moment-after-requires
     row-of-requires
     same-length
