@@ -9,6 +9,7 @@ use crate::state::Course;
 use crate::state::Halt;
 use crate::state::Moved;
 use rules::answers::Ended;
+use rules::limits::ROW_COLUMNS;
 use samples::inputs::InputSource;
 use samples::inputs::end_inputs;
 use samples::inputs::fill;
@@ -19,9 +20,6 @@ use words::arithmetic::wide;
 
 // The most seconds of one call.
 const MOST_BATCH: usize = 256;
-
-// A row's numbers.
-const ROW_NUMBERS: usize = 13;
 
 // How many seconds one call works: as many as have places for their rows.
 fn batch(left: u32, places: usize) -> usize
@@ -183,7 +181,7 @@ pub fn work(course: Course, chunk: &[u8], at: usize, ended: bool, rows: &mut [u6
     if left == 0 {
         return waiting(course, next, Halt::AllWorked);
     }
-    let places = rows.len() / ROW_NUMBERS;
+    let places = rows.len() / ROW_COLUMNS;
     if places == 0 {
         return waiting(course, next, Halt::Room);
     }

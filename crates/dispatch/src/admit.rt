@@ -14,6 +14,7 @@ use rules::answers::Verdict;
 use rules::limits::LEAST_ROW_BUFFER;
 use rules::limits::MOST_POWER;
 use rules::limits::MOST_SECONDS;
+use rules::limits::SECOND_INPUTS;
 use rules::run::Inputs;
 use rules::run::Run;
 use rules::station::Station;
@@ -56,7 +57,7 @@ fn admitted_to(done: u32, inputs: &[u32], most: usize) -> usize
     let mut second = done;
     let mut count: usize = 0;
     while count < most {
-        let x = first_inputs(&inputs[3 * count..]);
+        let x = first_inputs(&inputs[SECOND_INPUTS * count..]);
         let verdict = admit(second, x, LEAST_ROW_BUFFER);
         if let Verdict::Refused(_) = verdict {
             return count;
@@ -104,7 +105,7 @@ pub struct Judged {
 pub fn judge_seconds(st: Station, run: Run, inputs: &[u32], room: usize) -> Judged
     ensures { λ r. ⌜ JudgedBy (cameTo st run (inputsEach (now (inputs .entry))) room) r ⌝ }
 {
-    let asked = inputs.len() / 3;
+    let asked = inputs.len() / SECOND_INPUTS;
     let count = admitted_of(st, run, inputs, lesser(asked, room));
     Judged {
         seconds: count,

@@ -10,14 +10,11 @@ use crate::parts::whole;
 use crate::step::step;
 use commitment::configuration::capacities;
 use rows::row_numbers::put_row_numbers;
+use rules::limits::ROW_COLUMNS;
+use rules::limits::SECOND_INPUTS;
 use rules::run::Run;
 use rules::run::Worked;
 use rules::station::Station;
-
-// Numbers in a row, and in a second's inputs.
-const COLUMNS: usize = 13;
-
-const INPUTS: usize = 3;
 
 // Seconds of which none is refused, with a place for the row of each.
 fn work_seconds(st: Station, run: Run, inputs: &[u32], count: usize, rows: &mut [u64]) -> Run
@@ -32,12 +29,12 @@ fn work_seconds(st: Station, run: Run, inputs: &[u32], count: usize, rows: &mut 
     let mut moment = moment_of(run);
     let mut i: usize = 0;
     while i < count {
-        let x = first_inputs(&inputs[INPUTS * i..]);
+        let x = first_inputs(&inputs[SECOND_INPUTS * i..]);
         let stepped = step(st, &caps, states, moment, x, &mut decided);
         moment = stepped.moment;
         states = stepped.states;
         let row = stepped.row;
-        put_row_numbers(row, &mut rows[COLUMNS * i..]);
+        put_row_numbers(row, &mut rows[ROW_COLUMNS * i..]);
         i += 1;
     }
     whole(moment, states, decided)
@@ -47,10 +44,10 @@ fn work_seconds(st: Station, run: Run, inputs: &[u32], count: usize, rows: &mut 
 pub fn seconds(st: Station, run: Run, inputs: &[u32], rows: &mut [u64]) -> Worked
     ensures { λ r. ⌜ Seconds st run (now (inputs .entry)) (now (rows .entry)) r (now (rows .exit)) ⌝ }
 {
-    let judged = judge_seconds(st, run, inputs, rows.len() / COLUMNS);
+    let judged = judge_seconds(st, run, inputs, rows.len() / ROW_COLUMNS);
     let count = judged.seconds;
     let ended = judged.ended;
-    let after = work_seconds(st, run, &inputs[..INPUTS * count], count, rows);
+    let after = work_seconds(st, run, &inputs[..SECOND_INPUTS * count], count, rows);
     Worked {
         run: after,
         seconds: count,

@@ -5,9 +5,7 @@ ghost use lib.ListN.{length};
 ghost use Rattle.rules.specs.Bytes.{decimal, commaLine};
 ghost use Rattle.rows.specs.RowLines.{LinesPut};
 use crate::text::put_numbers;
-
-// Numbers in a row.
-const COLUMNS: usize = 13;
+use rules::limits::ROW_COLUMNS;
 
 // Room for any thirteen numbers of 64 bits: 20 digits and the byte after them for each.
 const MOST_BYTES: usize = 273;
@@ -38,7 +36,7 @@ fn line_length(numbers: &[u64]) -> usize
 {
     let mut bytes: usize = 0;
     let mut i: usize = 0;
-    while i < COLUMNS {
+    while i < ROW_COLUMNS {
         bytes += digits_of(numbers[i]) + 1;
         i += 1;
     }
@@ -60,12 +58,12 @@ fn fits(numbers: &[u64], room: usize) -> bool
 pub fn put_rows(numbers: &[u64], out: &mut [u8]) -> RowsPut
     ensures { λ r. ⌜ LinesPut (now (numbers .entry)) (now (out .entry)) r (now (out .exit)) ⌝ }
 {
-    let rows = numbers.len() / COLUMNS;
+    let rows = numbers.len() / ROW_COLUMNS;
     let mut count: usize = 0;
     let mut bytes: usize = 0;
     while count < rows {
-        let start = COLUMNS * count;
-        let end = start + COLUMNS;
+        let start = ROW_COLUMNS * count;
+        let end = start + ROW_COLUMNS;
         if !fits(&numbers[start..end], out.len() - bytes) {
             return RowsPut { count, bytes };
         }

@@ -5,10 +5,8 @@ ghost use Prim.Native.Nat.{_≤_};
 ghost use lib.ListN.{length, drop};
 ghost use Rattle.rows.specs.RowLines.{rowFirst};
 use crate::row::numbers_of;
+use rules::limits::ROW_COLUMNS;
 use rules::run::Row;
-
-// Numbers in a row.
-const COLUMNS: usize = 13;
 
 // Thirteen numbers at the front.
 fn put_columns(columns: [u64; 13], rows: &mut [u64])
@@ -16,7 +14,7 @@ fn put_columns(columns: [u64; 13], rows: &mut [u64])
     ensures { λ r. ⌜ now (rows .exit) ≡ columns ++ drop 13 (now (rows .entry)) ⌝ }
 {
     let mut i: usize = 0;
-    while i < COLUMNS {
+    while i < ROW_COLUMNS {
         rows[i] = columns[i];
         i += 1;
     }
@@ -26,7 +24,7 @@ fn put_columns(columns: [u64; 13], rows: &mut [u64])
 pub fn put_row_numbers(row: Row, rows: &mut [u64])
     ensures { λ r. ⌜ now (rows .exit) ≡ rowFirst row (now (rows .entry)) ⌝ }
 {
-    if rows.len() < COLUMNS {
+    if rows.len() < ROW_COLUMNS {
         return;
     }
     put_columns(numbers_of(row), rows);

@@ -72,3 +72,9 @@ pub const MOST_FUEL_A_SECOND: u64 = 15_000_000_000;
 
 // "row buffer under 256 bytes"
 pub const LEAST_ROW_BUFFER: usize = 256;
+
+// Numbers that a second is handed: load, solar offered and sheddable load.
+pub const SECOND_INPUTS: usize = 3;
+
+// Numbers of a row.
+pub const ROW_COLUMNS: usize = 13;

@@ -11,6 +11,8 @@ use rows::put_rows::put_rows;
 use rules::answers::Ended;
 use rules::answers::Outcome;
 use rules::answers::Verdict;
+use rules::limits::ROW_COLUMNS;
+use rules::limits::SECOND_INPUTS;
 use rules::run::Run;
 use rules::run::Worked;
 use rules::station::Station;
@@ -18,11 +20,6 @@ use steady::seconds::seconds;
 
 // Seconds in a batch: their numbers stay in the processor's first cache, and the text of any rows has room in 65,536 bytes.
 const BATCH: u32 = 384;
-
-// Numbers in a row, and in a second's inputs.
-const COLUMNS: usize = 13;
-
-const INPUTS: usize = 3;
 
 // The record, the seconds and the rows' bytes so far, and whether a refusal ended them.
 pub(crate) struct Tally {
@@ -83,17 +80,17 @@ fn work_batch(st: Station, run: Run, count: usize, rows: &mut [u64]) -> Worked
 {
     let mut inputs = [0u32; 1_152];
     put_inputs(run.done, count, &mut inputs);
-    let end = INPUTS * count;
+    let end = SECOND_INPUTS * count;
     seconds(st, run, &inputs[..end], rows)
 }
 
 // The text of the first rows: its length.
 fn put_text(rows: &[u64], count: usize, text: &mut [u8]) -> usize {
     // never taken: the rows have a place for each second that was worked
-    if rows.len() / COLUMNS < count {
+    if rows.len() / ROW_COLUMNS < count {
         return 0;
     }
-    let end = COLUMNS * count;
+    let end = ROW_COLUMNS * count;
     put_rows(&rows[..end], text).bytes
 }
 

@@ -15,14 +15,12 @@ use course::state::seconds_to_work;
 use course::work::work;
 use rows::put_rows::put_rows;
 use rules::limits::LEAST_ROW_BUFFER;
+use rules::limits::ROW_COLUMNS;
 use words::arithmetic::lesser;
 use words::arithmetic::wide;
 
 // The most seconds of one turn.
 const MOST_BATCH: usize = 256;
-
-// A row's numbers.
-const ROW_NUMBERS: usize = 13;
 
 // "row buffer under 256 bytes", and no row needs more than 153 bytes of them.
 const MOST_ROW: usize = 153;
@@ -84,7 +82,7 @@ fn some_rows(t: Turn, chunk: &[u8], ended: bool, rows: &mut [u64], out: &mut [u8
     let moved = work(simulation.course, chunk, t.next, ended, rows);
     let course = moved.course;
     let halt = moved.halt;
-    let numbers = ROW_NUMBERS * moved.seconds;
+    let numbers = ROW_COLUMNS * moved.seconds;
     let at = t.written;
     let put = put_rows(&rows[..numbers], &mut out[at..]);
     Turn {
@@ -118,6 +116,6 @@ pub(crate) fn seconds_turn(t: Turn, chunk: &[u8], ended: bool, out: &mut [u8]) -
     }
     let want = batch(left, room);
     let mut rows = [0u64; 3328];
-    let numbers = ROW_NUMBERS * want;
+    let numbers = ROW_COLUMNS * want;
     some_rows(t, chunk, ended, &mut rows[..numbers], out)
 }

@@ -9,14 +9,11 @@ use commitment::configuration::capacities;
 use dispatch::admit::judge_seconds;
 use dispatch::parts::moment_of;
 use dispatch::parts::whole;
+use rules::limits::ROW_COLUMNS;
+use rules::limits::SECOND_INPUTS;
 use rules::run::Run;
 use rules::run::Worked;
 use rules::station::Station;
-
-// Numbers in a row, and in a second's inputs.
-const COLUMNS: usize = 13;
-
-const INPUTS: usize = 3;
 
 // Seconds of which none is refused, with a place for the row of each.
 fn work_seconds(st: Station, run: Run, inputs: &[u32], count: usize, rows: &mut [u64]) -> Run
@@ -36,9 +33,9 @@ fn work_seconds(st: Station, run: Run, inputs: &[u32], count: usize, rows: &mut 
             &caps,
             states,
             moment,
-            &inputs[INPUTS * i..],
+            &inputs[SECOND_INPUTS * i..],
             &mut decided,
-            &mut rows[COLUMNS * i..],
+            &mut rows[ROW_COLUMNS * i..],
         );
         moment = went.moment;
         states = went.states;
@@ -51,10 +48,10 @@ fn work_seconds(st: Station, run: Run, inputs: &[u32], count: usize, rows: &mut 
 pub fn seconds(st: Station, run: Run, inputs: &[u32], rows: &mut [u64]) -> Worked
     ensures { λ r. ⌜ Seconds st run (now (inputs .entry)) (now (rows .entry)) r (now (rows .exit)) ⌝ }
 {
-    let judged = judge_seconds(st, run, inputs, rows.len() / COLUMNS);
+    let judged = judge_seconds(st, run, inputs, rows.len() / ROW_COLUMNS);
     let count = judged.seconds;
     let ended = judged.ended;
-    let after = work_seconds(st, run, &inputs[..INPUTS * count], count, rows);
+    let after = work_seconds(st, run, &inputs[..SECOND_INPUTS * count], count, rows);
     Worked {
         run: after,
         seconds: count,

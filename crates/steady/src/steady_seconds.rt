@@ -1,9 +1,10 @@
 // The steady seconds up to the next event, or to the first that calls other sets.
 ghost use mathlib.Core.Path.{_≡_};
 ghost use mathlib.Core.Bool.{true};
-ghost use Prim.Native.Nat.{_<_};
 ghost use lib.ListN.{length};
+ghost use Rattle.rules.specs.Configuration.{maskCalled};
 ghost use Rattle.rules.specs.Seconds.{inputsEach};
+ghost use Rattle.rules.specs.StationRecord.{someFileGives};
 ghost use Rattle.steady.specs.NextEvent.{NoEvent, unmovedAll};
 ghost use Rattle.steady.specs.SteadySecond.{Kept, SteadyFor, Workable, GoesOn};
 use crate::curve_table::fill_tables;
@@ -58,8 +59,6 @@ pub(crate) fn kept(st: Station, states: [SetState; 8], called: u32) -> Steady
     }
 }
 
-ghost use Rattle.rules.specs.StationRecord.{someFileGives};
-
 pub(crate) fn steady_seconds(
     st: Station,
     caps: &[u32; 64],
@@ -101,5 +100,3 @@ pub(crate) fn steady_seconds(
         seconds: walked.ran,
     }
 }
-
-ghost use Rattle.rules.specs.Configuration.{maskCalled};

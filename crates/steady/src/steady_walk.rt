@@ -12,12 +12,9 @@ use commitment::configuration::mask_called;
 use dispatch::inputs::first_inputs;
 use dispatch::parts::Moment;
 use rows::row_numbers::put_row_numbers;
+use rules::limits::ROW_COLUMNS;
+use rules::limits::SECOND_INPUTS;
 use rules::station::Station;
-
-// Numbers in a row, and in a second's inputs.
-const COLUMNS: usize = 13;
-
-const INPUTS: usize = 3;
 
 // Where a walk begins.
 pub(crate) struct Stretch {
@@ -42,11 +39,11 @@ pub(crate) fn steady_walk(
 {
     let configs = st.configs;
     let steady = from.steady;
-    let count = inputs.len() / INPUTS;
+    let count = inputs.len() / SECOND_INPUTS;
     let mut moment = from.moment;
     let mut ran: usize = 0;
     while ran < count {
-        let x = first_inputs(&inputs[INPUTS * ran..]);
+        let x = first_inputs(&inputs[SECOND_INPUTS * ran..]);
         let standing = Standing { moment, ran };
         let gone = steady_step(
             st,
@@ -62,7 +59,7 @@ pub(crate) fn steady_walk(
         );
         moment = gone.moment;
         let row = gone.row;
-        put_row_numbers(row, &mut rows[COLUMNS * ran..]);
+        put_row_numbers(row, &mut rows[ROW_COLUMNS * ran..]);
         ran += 1;
         if mask_called(configs, moment.called) != steady.called {
             return Standing { moment, ran };

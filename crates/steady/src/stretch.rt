@@ -10,12 +10,10 @@ use dispatch::inputs::first_inputs;
 use dispatch::parts::Moment;
 use dispatch::step::step;
 use rows::row_numbers::put_row_numbers;
+use rules::limits::SECOND_INPUTS;
 use rules::run::SetState;
 use rules::station::Station;
 use words::arithmetic::lesser;
-
-// Numbers in a second's inputs.
-const INPUTS: usize = 3;
 
 // One second by its eleven steps.
 fn one_second(
@@ -57,7 +55,7 @@ pub(crate) fn stretch_from(
 {
     let configs = st.configs;
     let called = mask_called(configs, moment.called);
-    let most = lesser(steady_for(st, states, called), inputs.len() / INPUTS);
+    let most = lesser(steady_for(st, states, called), inputs.len() / SECOND_INPUTS);
     if most == 0 {
         return one_second(st, caps, states, moment, inputs, decided, rows);
     }
@@ -67,7 +65,7 @@ pub(crate) fn stretch_from(
         caps,
         steady,
         moment,
-        &inputs[..INPUTS * most],
+        &inputs[..SECOND_INPUTS * most],
         decided,
         rows,
     )
