@@ -65,12 +65,17 @@ fn told_at(
     }
 }
 
-// The seconds after the first `from`, as far as usual rows of the chunk tell them; `ahead` is the next row, and the last that was read.
-fn fill_usual(
+// Where usual rows stand: the columns, the lines counted, the row in force, and the next one, which is the last that was read.
+struct UsualRows {
     columns: Columns,
     lines: u64,
     held: Sample,
     ahead: Sample,
+}
+
+// The seconds after the first `from`, as far as usual rows of the chunk tell them.
+fn fill_usual(
+    rows: UsualRows,
     at: usize,
     from: usize,
     first: usize,
@@ -81,11 +86,12 @@ fn fill_usual(
     sheddables: &mut [u32],
 ) -> Told
     requires { ⌜ (first ≤ 4294967295) × (places ≤ placesOf (now loads) (now solars) (now sheddables)) ⌝ }
-    ensures { λ r. ⌜ GoesOn (toldAt columns lines held ahead at from) first places (now (chunk .entry)) (now (loads .entry)) (now (solars .entry)) (now (sheddables .entry)) r (now (loads .exit)) (now (solars .exit)) (now (sheddables .exit)) ⌝ }
+    ensures { λ r. ⌜ GoesOn (toldAt (rows .columns) (rows .lines) (rows .held) (rows .ahead) at from) first places (now (chunk .entry)) (now (loads .entry)) (now (solars .entry)) (now (sheddables .entry)) r (now (loads .exit)) (now (solars .exit)) (now (sheddables .exit)) ⌝ }
 {
-    let mut line = lines;
-    let mut now = held;
-    let mut row = ahead;
+    let columns = rows.columns;
+    let mut line = rows.lines;
+    let mut now = rows.held;
+    let mut row = rows.ahead;
     let mut next = at;
     let mut i = from;
     while i < places {
@@ -137,11 +143,14 @@ pub(crate) fn usual_seconds(
     if last != row.at {
         return told;
     }
-    fill_usual(
+    let rows = UsualRows {
         columns,
         lines,
-        now,
-        row,
+        held: now,
+        ahead: row,
+    };
+    fill_usual(
+        rows,
         told.next,
         told.seconds,
         first,

@@ -15,39 +15,39 @@ use Rattle.samples.proofs.stage.next_line.Reads as next-line-reads
 use Rattle.samples.proofs.usual_seconds.told_at.Reads as told-at-reads
 
 abbrev Inv-loop : tie.InvT-loop
-Inv-loop columns lines at from first places chunk loads₀ solars₀ sheddables₀ line₀ now₀ row₀ next₀ i₀ loads solars sheddables line now row next i =
+Inv-loop at from first places chunk loads₀ solars₀ sheddables₀ columns line₀ now₀ row₀ next₀ i₀ loads solars sheddables line now row next i =
     GoesOn (toldAt columns line₀ now₀ row₀ next₀ i₀) first places chunk loads₀ solars₀ sheddables₀ (toldAt columns line now row next i) loads solars sheddables
 
 abbrev μ-loop : tie.MeasureT-loop
-μ-loop columns lines at from first places chunk loads₀ solars₀ sheddables₀ line₀ now₀ row₀ next₀ i₀ loads solars sheddables line now row next i =
+μ-loop at from first places chunk loads₀ solars₀ sheddables₀ columns line₀ now₀ row₀ next₀ i₀ loads solars sheddables line now row next i =
     (length chunk - next) + (places - i)
 
 loop-holds : tie.Need-loop-holds Inv-loop μ-loop
-loop-holds c = none-told _ _ _ (c .before .before .before .before .args .chunk .now) (c .before .before .before .before .args .loads .now) (c .before .before .before .before .args .solars .now) (c .before .before .before .before .args .sheddables .now)
+loop-holds c = none-told _ _ _ (c .before .before .before .before .before .before .before .args .chunk .now) (c .before .before .before .before .before .before .before .args .loads .now) (c .before .before .before .before .before .before .before .args .solars .now) (c .before .before .before .before .before .before .before .args .sheddables .now)
 
 add-if1 : tie.Need-add-if1 Inv-loop μ-loop
-add-if1 c = record { fits = omega (arith, c .before .before .before .before .before .before .pre .0, c .before .before .before .before .before .before .pre .1, c .loop-test .taken, c .before .before .before .before .before .before .good .1 .1 .1 .1 .1 .1 .1 .1 .1 .0) }
+add-if1 c = record { fits = omega (arith, c .before .before .before .before .before .before .before .before .before .pre .0, c .before .before .before .before .before .before .before .before .before .pre .1, c .loop-test .taken, c .before .before .before .before .before .before .before .before .before .good .1 .1 .1 .1 .1 .1 .0) }
 
 wide-requires : tie.Need-wide-requires Inv-loop μ-loop
 wide-requires c κs = search needs
 
 mul-loads : tie.Need-mul-loads Inv-loop μ-loop
-mul-loads c = record { fits = omega (arith, c .before .before .before .before .before .before .before .before .pre .1, c .before .before .loop-test .taken, c .before .before .before .before .before .before .before .before .good .1 .1 .1 .1 .1 .1 .1 .1 .1 .0) }
+mul-loads c = record { fits = omega (arith, c .before .before .before .before .before .before .before .before .before .before .before .pre .1, c .before .before .loop-test .taken, c .before .before .before .before .before .before .before .before .before .before .before .good .1 .1 .1 .1 .1 .1 .0) }
 
 slice-write-loads : tie.Need-slice-write-loads Inv-loop μ-loop
-slice-write-loads c = omega (arith, c .before .before .before .before .before .before .before .before .pre .1, c .before .before .loop-test .taken, c .before .before .before .loop .inv .sameLoads)
+slice-write-loads c = omega (arith, c .before .before .before .before .before .before .before .before .before .before .before .pre .1, c .before .before .loop-test .taken, c .before .before .before .loop .inv .sameLoads)
 
 mul-solars : tie.Need-mul-solars Inv-loop μ-loop
-mul-solars c = record { fits = omega (arith, c .before .before .before .before .before .before .before .before .pre .1, c .before .before .loop-test .taken, c .before .before .before .before .before .before .before .before .good .1 .1 .1 .1 .1 .1 .1 .1 .1 .0) }
+mul-solars c = record { fits = omega (arith, c .before .before .before .before .before .before .before .before .before .before .before .pre .1, c .before .before .loop-test .taken, c .before .before .before .before .before .before .before .before .before .before .before .good .1 .1 .1 .1 .1 .1 .0) }
 
 slice-write-solars : tie.Need-slice-write-solars Inv-loop μ-loop
-slice-write-solars c = omega (arith, c .before .before .before .before .before .before .before .before .pre .1, c .before .before .loop-test .taken, c .before .before .before .loop .inv .sameSolars)
+slice-write-solars c = omega (arith, c .before .before .before .before .before .before .before .before .before .before .before .pre .1, c .before .before .loop-test .taken, c .before .before .before .loop .inv .sameSolars)
 
 mul-sheddables : tie.Need-mul-sheddables Inv-loop μ-loop
-mul-sheddables c = record { fits = omega (arith, c .before .before .before .before .before .before .before .before .pre .1, c .before .before .loop-test .taken, c .before .before .before .before .before .before .before .before .good .1 .1 .1 .1 .1 .1 .1 .1 .1 .0) }
+mul-sheddables c = record { fits = omega (arith, c .before .before .before .before .before .before .before .before .before .before .before .pre .1, c .before .before .loop-test .taken, c .before .before .before .before .before .before .before .before .before .before .before .good .1 .1 .1 .1 .1 .1 .0) }
 
 slice-write-sheddables : tie.Need-slice-write-sheddables Inv-loop μ-loop
-slice-write-sheddables c = omega (arith, c .before .before .before .before .before .before .before .before .pre .1, c .before .before .loop-test .taken, c .before .before .before .loop .inv .sameSheddables)
+slice-write-sheddables c = omega (arith, c .before .before .before .before .before .before .before .before .before .before .before .pre .1, c .before .before .loop-test .taken, c .before .before .before .loop .inv .sameSheddables)
 
 add-i : tie.Need-add-i Inv-loop μ-loop
 add-i c = search needs
@@ -57,8 +57,8 @@ loop-less c = search needs
 
 loop-again : tie.Need-loop-again Inv-loop μ-loop
 loop-again c =
-    let a = c .before .before .before .before .before .before .before .before .args in
-    second-told _ (a .first) (a .places) (a .chunk .now) (a .loads .now) (a .solars .now) (a .sheddables .now) (a .columns) (c .before .before .before .loop .line) (c .before .before .before .loop .now) (c .before .before .before .loop .row) (c .before .before .before .loop .next) (c .before .before .before .loop .i) (c .before .before .before .loop .loads) (c .before .before .before .loop .solars) (c .before .before .before .loop .sheddables) (c .before .before .before .loop .inv) (omega (arith, c .if1 .taken, c .before .wide .ensures .0)) (c .before .before .loop-test .taken)
+    let a = c .before .before .before .before .before .before .before .before .before .before .before .args in
+    second-told _ (a .first) (a .places) (a .chunk .now) (a .loads .now) (a .solars .now) (a .sheddables .now) (a .rows .columns) (c .before .before .before .loop .line) (c .before .before .before .loop .now) (c .before .before .before .loop .row) (c .before .before .before .loop .next) (c .before .before .before .loop .i) (c .before .before .before .loop .loads) (c .before .before .before .loop .solars) (c .before .before .before .loop .sheddables) (c .before .before .before .loop .inv) (omega (arith, c .if1 .taken, c .before .wide .ensures .0)) (c .before .before .loop-test .taken)
 
 usual-later-requires : tie.Need-usual-later-requires Inv-loop μ-loop
 usual-later-requires c κs = search needs
@@ -89,17 +89,17 @@ next-line-requires c κs = search needs
 
 loop-less-2 : tie.Need-loop-less-2 Inv-loop μ-loop
 loop-less-2 c =
-    let a = c .before .before .before .before .before .before .before .before .before .before .before .before .before .args in
+    let a = c .before .before .before .before .before .before .before .before .before .before .before .before .before .before .before .before .args in
     let usual = c .before .before .usual .given in
-    let u : UsualLater (a .columns) (c .before .before .before .before .before .before .before .before .loop .row .at) (a .chunk .now) (c .before .before .before .before .before .before .before .before .loop .next) (usual .0 .0) (usual .0 .1 .0) = rw (usual .1) at (c .before .before .before .before .usual-later .ensures) in
+    let u : UsualLater (a .rows .columns) (c .before .before .before .before .before .before .before .before .loop .row .at) (a .chunk .now) (c .before .before .before .before .before .before .before .before .loop .next) (usual .0 .0) (usual .0 .1 .0) = rw (usual .1) at (c .before .before .before .before .usual-later .ensures) in
     omega (arith, u .right .onward, u .right .within)
 
 loop-again-2 : tie.Need-loop-again-2 Inv-loop μ-loop
 loop-again-2 c =
-    let a = c .before .before .before .before .before .before .before .before .before .before .before .before .before .args in
+    let a = c .before .before .before .before .before .before .before .before .before .before .before .before .before .before .before .before .args in
     let usual = c .before .before .usual .given in
-    let u : UsualLater (a .columns) (c .before .before .before .before .before .before .before .before .loop .row .at) (a .chunk .now) (c .before .before .before .before .before .before .before .before .loop .next) (usual .0 .0) (usual .0 .1 .0) = rw (usual .1) at (c .before .before .before .before .usual-later .ensures) in
-    rw (c .next-line .ensures) (row-told _ (a .first) (a .places) (a .chunk .now) (a .loads .now) (a .solars .now) (a .sheddables .now) (a .columns) (c .before .before .before .before .before .before .before .before .loop .line) (c .before .before .before .before .before .before .before .before .loop .now) (c .before .before .before .before .before .before .before .before .loop .row) (c .before .before .before .before .before .before .before .before .loop .next) (c .before .before .before .before .before .before .before .before .loop .i) (c .before .before .before .before .before .before .before .before .loop .loads) (c .before .before .before .before .before .before .before .before .loop .solars) (c .before .before .before .before .before .before .before .before .loop .sheddables) (c .before .before .before .before .before .before .before .before .loop .inv) (omega (arith, c .before .before .before .before .before .if1 .left, c .before .before .before .before .before .before .wide .ensures .0)) (usual .0 .0) (usual .0 .1 .0) u)
+    let u : UsualLater (a .rows .columns) (c .before .before .before .before .before .before .before .before .loop .row .at) (a .chunk .now) (c .before .before .before .before .before .before .before .before .loop .next) (usual .0 .0) (usual .0 .1 .0) = rw (usual .1) at (c .before .before .before .before .usual-later .ensures) in
+    rw (c .next-line .ensures) (row-told _ (a .first) (a .places) (a .chunk .now) (a .loads .now) (a .solars .now) (a .sheddables .now) (a .rows .columns) (c .before .before .before .before .before .before .before .before .loop .line) (c .before .before .before .before .before .before .before .before .loop .now) (c .before .before .before .before .before .before .before .before .loop .row) (c .before .before .before .before .before .before .before .before .loop .next) (c .before .before .before .before .before .before .before .before .loop .i) (c .before .before .before .before .before .before .before .before .loop .loads) (c .before .before .before .before .before .before .before .before .loop .solars) (c .before .before .before .before .before .before .before .before .loop .sheddables) (c .before .before .before .before .before .before .before .before .loop .inv) (omega (arith, c .before .before .before .before .before .if1 .left, c .before .before .before .before .before .before .wide .ensures .0)) (usual .0 .0) (usual .0 .1 .0) u)
 
 told-at-requires-2 : tie.Need-told-at-requires-2 Inv-loop μ-loop
 told-at-requires-2 c κs = search needs
