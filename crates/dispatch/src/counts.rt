@@ -3,8 +3,8 @@ ghost use mathlib.Core.Path.{_≡_};
 ghost use Rattle.gensets.specs.Burned.{perHour};
 ghost use Rattle.gensets.specs.Leaves.{rateTold};
 ghost use Rattle.dispatch.specs.InType.{countedIn, countedAllIn};
-use gensets::fuel::Rate;
 use gensets::fuel::fuel_rate;
+use gensets::fuel::per_hour;
 use gensets::share::shares;
 use rules::run::SetState;
 use rules::station::GenSet;
@@ -14,12 +14,7 @@ use words::masks::next_set;
 fn burned(genset: GenSet, power: u32) -> u64
     ensures { λ r. ⌜ r ≡ perHour (rateTold genset power) ⌝ }
 {
-    let rate = fuel_rate(genset, power);
-    match rate {
-        Rate::PerHour(burns) => burns,
-        Rate::OverTwiceRating => 0,
-        Rate::OutOfRange => 0,
-    }
+    per_hour(fuel_rate(genset, power))
 }
 
 // The counts of a set On after a second at a power.

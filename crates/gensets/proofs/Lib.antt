@@ -4,6 +4,7 @@ pub mod SharesCases
 pub mod SharesTold
 pub mod FileCapacity
 pub mod Signed
-pub mod Line
+pub mod LineRight
+pub mod LineSmall
 pub mod FuelFacts
 pub mod FuelTold

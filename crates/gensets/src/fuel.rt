@@ -1,10 +1,12 @@
 // Step 8: the fuel rate of a set at a power.
 ghost use mathlib.Core.Path.{_≡_};
-ghost use mathlib.Core.Bool.{true};
-ghost use Prim.Native.Nat.{suc, _*_, _/_, _^_, _≤_, _<_};
-ghost use lib.IntN.{pos, natAbs, _+ℤ_, _-ℤ_, _*ℤ_};
-ghost use Rattle.rules.specs.Fuel.{notBelowZero, lowerPoint, exactFrom, stepAt};
+ghost use Prim.Native.Nat.{suc, _≤_, _<_};
+ghost use Rattle.rules.specs.Fuel.{lowerPoint};
+ghost use Rattle.gensets.specs.Burned.{perHour};
 ghost use Rattle.gensets.specs.Leaves.{lineRight, rateTold};
+use crate::line::line_of;
+use crate::line::product;
+use crate::line::rate_on;
 use rules::limits::LEAST_POINTS;
 use rules::limits::MOST_LOAD;
 use rules::limits::MOST_POINTS;
@@ -22,31 +24,15 @@ pub enum Rate {
     OutOfRange,
 }
 
-// The whole product of two numbers.
-fn product(a: u32, b: u32) -> u64
-    ensures { λ r. ⌜ r ≡ a * b ⌝ }
+// The rate itself, and 0 where there is none.
+pub fn per_hour(rate: Rate) -> u64
+    ensures { λ r. ⌜ r ≡ perHour rate ⌝ }
 {
-    (a as u64) * (b as u64)
-}
-
-// a - b, with its sign.
-fn difference(a: u64, b: u64) -> i64
-    requires { ⌜ (a ≤ 2 ^ 62) × (b ≤ 2 ^ 62) ⌝ }
-    ensures { λ r. ⌜ r ≡ pos a -ℤ pos b ⌝ }
-{
-    (a as i64) - (b as i64)
-}
-
-// base + rise x run, a negative result made zero.
-fn raised(base: u64, rise: i64, run: i64) -> u64
-    requires { ⌜ (base ≤ 2 ^ 61) × (natAbs rise ≤ 2 ^ 24) × (natAbs run ≤ 2 ^ 35) ⌝ }
-    ensures { λ r. ⌜ r ≡ notBelowZero (pos base +ℤ rise *ℤ run) ⌝ }
-{
-    let exact = (base as i64) + rise * run;
-    if exact < 0 {
-        return 0;
+    match rate {
+        Rate::PerHour(burns) => burns,
+        Rate::OverTwiceRating => 0,
+        Rate::OutOfRange => 0,
     }
-    exact as u64
 }
 
 // The place of the lower of the two points around a power.
@@ -82,24 +68,6 @@ fn line_right(g: GenSet, j: usize) -> bool
         & (rates[j + 1] <= MOST_RATE)
 }
 
-// mL/h at a power on the line through the points j and j + 1.
-fn line_rate(g: GenSet, j: usize, power: u32) -> u64
-    requires { ⌜ (j < 4) × (lineRight g j ≡ true) × (power ≤ 2 * g .rating) ⌝ }
-    ensures { λ r. ⌜ r ≡ exactFrom g power j / (g .rating * stepAt g j) ⌝ }
-{
-    let loads = g.loads;
-    let rates = g.rates;
-    let x0 = loads[j];
-    let y0 = rates[j];
-    let x1 = loads[j + 1];
-    let y1 = rates[j + 1];
-    let width = product(g.rating, x1 - x0);
-    let base = (y0 as u64) * width;
-    let rise = difference(y1 as u64, y0 as u64);
-    let run = difference(product(power, 1000), product(x0, g.rating));
-    raised(base, rise, run) / width
-}
-
 // The rate at a power, of any record.
 pub fn fuel_rate(g: GenSet, power: u32) -> Rate
     ensures { λ r. ⌜ r ≡ rateTold g power ⌝ }
@@ -117,5 +85,5 @@ pub fn fuel_rate(g: GenSet, power: u32) -> Rate
     if 2 * g.rating < power {
         return Rate::OverTwiceRating;
     }
-    Rate::PerHour(line_rate(g, j, power))
+    rate_on(line_of(g, j), product(power, 1000))
 }

@@ -113,7 +113,7 @@ module _ {sets : List GenSet} {mask diesel cap : ℕ} {energies fuels : List ℕ
         pub takes-rating : together - given ≤ ratingOf sets i
         takes-rating = rw takes-share (share-most sets mask diesel (h .diesel-most) i)
 
-        pub readable : Readable (setAt sets i) lines (i * 20) (together - given)
+        pub readable : Readable (setAt sets i) lines (i * 16) (together - given)
         readable = record {
           in-rule = record { numbers = h .numbers i l on; pairs = h .pairs i l on };
           room = omega arith;

@@ -1,4 +1,4 @@
--- The tables as they are filled: five stores put a line, lines below stay as they stand, and set after set along the mask's walk both
+-- The tables as they are filled: four stores put a line, lines below stay as they stand, and set after set along the mask's walk both
 -- tables come to stand. Assumes nothing.
 use Prim.Native.Nat.{ℕ, zero, suc, _+_, _*_, _≤_, _<_, zero-le}
 use mathlib.Core.Path.{_≡_, refl, sym, ap, _∙_}
@@ -22,9 +22,9 @@ use Rattle.words.proofs.Weighed.{weighed-has, walk-start, walk-turn}
 use Rattle.gensets.proofs.SharesWalk.{ratingOf}
 use Rattle.steady.specs.CurveTable.{InRule, LineAt, CurveAt, Untouched, Tabled, Fillable}
 
--- ---- a line: five stores
+-- ---- a line: four stores
 
-module _ (l : List ℕ) (at a b c d e : ℕ) (room : at + 5 ≤ length l) where
+module _ (l : List ℕ) (at a b c d : ℕ) (room : at + 4 ≤ length l) where
   abbrev put₁ : List ℕ
   put₁ = set l at a
 
@@ -37,29 +37,23 @@ module _ (l : List ℕ) (at a b c d e : ℕ) (room : at + 5 ≤ length l) where
   abbrev put₄ : List ℕ
   put₄ = set put₃ (at + 3) d
 
-  abbrev put₅ : List ℕ
-  put₅ = set put₄ (at + 4) e
-
   kept : (s : List ℕ) (i j v : ℕ) → j < i → getD (set s i v) j 0 ≡ getD s j 0
   kept s i j v h = getD-set-other s i j v 0 (ne-of-lt h)
 
-  pub five-numbers : (k : ℕ) → k < 5 → getD put₅ (at + k) 0 ≡ getD (a ∷ b ∷ c ∷ d ∷ e ∷ []) k 0
-  five-numbers zero h =
+  pub four-numbers : (k : ℕ) → k < 4 → getD put₄ (at + k) 0 ≡ getD (a ∷ b ∷ c ∷ d ∷ []) k 0
+  four-numbers zero h =
       let z : at + 0 ≡ at = omega arith in
-      rw z (kept put₄ (at + 4) at e (omega arith) ∙ kept put₃ (at + 3) at d (omega arith) ∙ kept put₂ (at + 2) at c (omega arith) ∙ kept put₁ (at + 1) at b (omega arith) ∙ getD-set-same l at a 0 (omega arith))
-  five-numbers (suc zero) h =
-      kept put₄ (at + 4) (at + 1) e (omega arith) ∙ kept put₃ (at + 3) (at + 1) d (omega arith) ∙ kept put₂ (at + 2) (at + 1) c (omega arith) ∙ getD-set-same put₁ (at + 1) b 0 (simp length-set (omega arith))
-  five-numbers (suc (suc zero)) h =
-      kept put₄ (at + 4) (at + 2) e (omega arith) ∙ kept put₃ (at + 3) (at + 2) d (omega arith) ∙ getD-set-same put₂ (at + 2) c 0 (simp length-set (omega arith))
-  five-numbers (suc (suc (suc zero))) h = kept put₄ (at + 4) (at + 3) e (omega arith) ∙ getD-set-same put₃ (at + 3) d 0 (simp length-set (omega arith))
-  five-numbers (suc (suc (suc (suc zero)))) h = getD-set-same put₄ (at + 4) e 0 (simp length-set (omega arith))
-  five-numbers (suc (suc (suc (suc (suc k))))) h = absurd (omega arith)
+      rw z (kept put₃ (at + 3) at d (omega arith) ∙ kept put₂ (at + 2) at c (omega arith) ∙ kept put₁ (at + 1) at b (omega arith) ∙ getD-set-same l at a 0 (omega arith))
+  four-numbers (suc zero) h =
+      kept put₃ (at + 3) (at + 1) d (omega arith) ∙ kept put₂ (at + 2) (at + 1) c (omega arith) ∙ getD-set-same put₁ (at + 1) b 0 (simp length-set (omega arith))
+  four-numbers (suc (suc zero)) h = kept put₃ (at + 3) (at + 2) d (omega arith) ∙ getD-set-same put₂ (at + 2) c 0 (simp length-set (omega arith))
+  four-numbers (suc (suc (suc zero))) h = getD-set-same put₃ (at + 3) d 0 (simp length-set (omega arith))
+  four-numbers (suc (suc (suc (suc k)))) h = absurd (omega arith)
 
-  pub five-below : Untouched l put₅ at
-  five-below = record {
+  pub four-below : Untouched l put₄ at
+  four-below = record {
     below =
-        take-set-le at put₄ (at + 4) e (omega arith)
-        ∙ take-set-le at put₃ (at + 3) d (omega arith)
+        take-set-le at put₃ (at + 3) d (omega arith)
         ∙ take-set-le at put₂ (at + 2) c (omega arith)
         ∙ take-set-le at put₁ (at + 1) b (omega arith)
         ∙ take-set-le at l at a (omega arith);
@@ -74,10 +68,10 @@ module _ {old new : List ℕ} {place : ℕ} (same : Untouched old new place) whe
   pub below-more : (least : ℕ) → least ≤ place → Untouched old new least
   below-more least h = record { below = sym (take-take least place new h) ∙ ap (take least) (same .below) ∙ take-take least place old h }
 
-  line-stays : {g : GenSet} {j at : ℕ} → at + 5 ≤ place → LineAt g j old at → LineAt g j new at
+  line-stays : {g : GenSet} {j at : ℕ} → at + 4 ≤ place → LineAt g j old at → LineAt g j new at
   line-stays h t = record { number = λ k l. same-at _ (omega arith) ∙ t .number k l }
 
-  pub curve-stays : {g : GenSet} {base : ℕ} → g .points ≤ 5 → base + 20 ≤ place → CurveAt g old base → CurveAt g new base
+  pub curve-stays : {g : GenSet} {base : ℕ} → g .points ≤ 5 → base + 16 ≤ place → CurveAt g old base → CurveAt g new base
   curve-stays most h t = record {
     line = λ j l. line-stays (omega arith) (t .line j l);
     beyond = λ j l k. same-at _ (omega arith) ∙ t .beyond j l k;
@@ -88,16 +82,16 @@ module _ {old new : List ℕ} {place : ℕ} (same : Untouched old new place) whe
 pub record Drawing (g : GenSet) (base : ℕ) (old : List ℕ) (j : ℕ) (lines : List ℕ) : Type 0 where
   pub range : j ≤ 4
   pub size : length lines ≡ length old
-  pub line : (k : ℕ) → k < j → suc k < g .points → LineAt g k lines (base + k * 5)
-  pub beyond : (k : ℕ) → k < j → g .points ≤ suc k → getD lines (base + k * 5) 0 ≡ 18_446_744_073_709_551_615
+  pub line : (k : ℕ) → k < j → suc k < g .points → LineAt g k lines (base + k * 4)
+  pub beyond : (k : ℕ) → k < j → g .points ≤ suc k → getD lines (base + k * 4) 0 ≡ 18_446_744_073_709_551_615
   pub below : Untouched old lines base
 
 pub drawing-start : (g : GenSet) (base : ℕ) (old : List ℕ) → Drawing g base old 0 old
 drawing-start g base old = record { range = zero-le; size = refl; line = λ k l. absurd (omega arith); beyond = λ k l. absurd (omega arith); below = record { below = refl } }
 
 module _ {g : GenSet} {base : ℕ} {old : List ℕ} {j : ℕ} {lines : List ℕ} (now : Drawing g base old j lines) where
-  pub drawing-more : j < 4 → {new : List ℕ} → length new ≡ length lines → Untouched lines new (base + j * 5) → (suc j < g .points → LineAt g j new (base + j * 5))
-      → (g .points ≤ suc j → getD new (base + j * 5) 0 ≡ 18_446_744_073_709_551_615) → Drawing g base old (j + 1) new
+  pub drawing-more : j < 4 → {new : List ℕ} → length new ≡ length lines → Untouched lines new (base + j * 4) → (suc j < g .points → LineAt g j new (base + j * 4))
+      → (g .points ≤ suc j → getD new (base + j * 4) 0 ≡ 18_446_744_073_709_551_615) → Drawing g base old (j + 1) new
   drawing-more less {new} size same here none = record {
     range = omega arith;
     size = size ∙ now .size;
@@ -109,13 +103,13 @@ module _ {g : GenSet} {base : ℕ} {old : List ℕ} {j : ℕ} {lines : List ℕ}
       up-to : (k : ℕ) → k < j + 1 → k ≤ j
       up-to k l = omega arith
 
-      a-line : (k : ℕ) → (k ≡ j) ⊎ (k < j) → suc k < g .points → LineAt g k new (base + k * 5)
+      a-line : (k : ℕ) → (k ≡ j) ⊎ (k < j) → suc k < g .points → LineAt g k new (base + k * 4)
       a-line k (inl e) p = rw e (here (rw e at p))
       a-line k (inr l) p = line-stays same (omega arith) (now .line k l p)
 
-      no-line : (k : ℕ) → (k ≡ j) ⊎ (k < j) → g .points ≤ suc k → getD new (base + k * 5) 0 ≡ 18_446_744_073_709_551_615
+      no-line : (k : ℕ) → (k ≡ j) ⊎ (k < j) → g .points ≤ suc k → getD new (base + k * 4) 0 ≡ 18_446_744_073_709_551_615
       no-line k (inl e) p = rw e (none (rw e at p))
-      no-line k (inr l) p = same-at same (base + k * 5) (omega arith) ∙ now .beyond k l p
+      no-line k (inr l) p = same-at same (base + k * 4) (omega arith) ∙ now .beyond k l p
 
   pub drawn-all : InRule g → 4 ≤ j → CurveAt g lines base
   drawn-all right h = record {
@@ -128,11 +122,11 @@ module _ {g : GenSet} {base : ℕ} {old : List ℕ} {j : ℕ} {lines : List ℕ}
 pub record Tabling (sets : List GenSet) (mask i sum : ℕ) (sums lines : List ℕ) : Type 0 where
   pub at : Place mask i
   pub sums-length : length sums ≡ 8
-  pub lines-length : length lines ≡ 160
+  pub lines-length : length lines ≡ 128
   pub total : sum ≡ runningTotal sets mask i
   pub few : sum ≤ i * 10_000_000
   pub summed : (k : ℕ) → k < i → has mask k ≡ true → getD sums k 0 ≡ runningTotal sets mask (suc k)
-  pub curve : (k : ℕ) → k < i → has mask k ≡ true → CurveAt (setAt sets k) lines (k * 20)
+  pub curve : (k : ℕ) → k < i → has mask k ≡ true → CurveAt (setAt sets k) lines (k * 16)
 
 module _ {sets : List GenSet} {mask : ℕ} {sums₀ lines₀ : List ℕ} (h : Fillable sets mask sums₀ lines₀) where
   pub tabling-start : Tabling sets mask (nextSet mask 0) 0 sums₀ lines₀
@@ -158,7 +152,7 @@ module _ {sets : List GenSet} {mask : ℕ} {sums₀ lines₀ : List ℕ} (h : Fi
       pub sum-small : sum + ratingOf sets i ≤ (i + 1) * 10_000_000
       sum-small = omega (arith, now .few, rating-range (setAt sets i) (set-in-rule .numbers) .1)
 
-      pub tabling-more : {new : List ℕ} → length new ≡ 160 → CurveAt (setAt sets i) new (i * 20) → Untouched lines new (i * 20)
+      pub tabling-more : {new : List ℕ} → length new ≡ 128 → CurveAt (setAt sets i) new (i * 16) → Untouched lines new (i * 16)
           → Tabling sets mask (nextSet mask (i + 1)) (sum + ratingOf sets i) (set sums i (sum + ratingOf sets i)) new
       unfolding runningTotal
       tabling-more {new} size own same = record {
@@ -187,6 +181,6 @@ module _ {sets : List GenSet} {mask : ℕ} {sums₀ lines₀ : List ℕ} (h : Fi
               rw z (getD-set-same sums i v 0 (omega (arith, now .sums-length)) ∙ rw (now .total) (sym (weighed-has (ratingOf sets) mask i (now .at .here less))))
           a-sum k e (inr l) = getD-set-other sums i k v 0 (ne-of-lt l) ∙ now .summed k l e
 
-          a-curve : (k : ℕ) → has mask k ≡ true → (k ≡ i) ⊎ (k < i) → CurveAt (setAt sets k) new (k * 20)
+          a-curve : (k : ℕ) → has mask k ≡ true → (k ≡ i) ⊎ (k < i) → CurveAt (setAt sets k) new (k * 16)
           a-curve k e (inl z) = rw z own
           a-curve k e (inr l) = curve-stays same (points-range (setAt sets k) (h .in-rule k (omega arith) e .numbers) .1) (omega arith) (now .curve k l e)

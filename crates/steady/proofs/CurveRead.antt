@@ -1,25 +1,27 @@
 -- A set's lines read from the table: how many of those after the first have begun is the lower point's place, and the numbers of that line
 -- give the rate. Assumes nothing.
-use Prim.Native.Nat.{ℕ, zero, suc, _+_, _-_, _*_, _/_, _≤_, _<_}
+use Prim.Native.Nat.{ℕ, zero, suc, _+_, _-_, _*_, _≤_, _<_}
 use mathlib.Core.Path.{_≡_, refl, sym, ap, _∙_}
 use mathlib.Core.Bool.{Bool, true, false}
 use mathlib.Core.List.{List}
 use native.Mathlib.Omega.{arith}
-use native.Mathlib.Nat.{mul-le-mul-right, le-trans}
+use native.Mathlib.Nat.{mul-le-mul-right}
 use lib.Dec.{leb}
-use lib.IntN.{ℤ, pos, _+ℤ_, _-ℤ_, _*ℤ_}
 use lib.ListN.{getD}
 use borrow.Author.Tests.{le-leb, lt-leb, leb-true, leb-false}
 use Rattle.rules.specs.declared.station.GenSet.{GenSet}
 use Rattle.rules.specs.Numbers.{if_then_else_, sumTo}
-use Rattle.rules.specs.Fuel.{loadAt, rateAt, stepAt, exactLine, notBelowZero, lowerOf, lowerPoint, exactFrom, fuelRate}
+use Rattle.rules.specs.Fuel.{loadAt, lowerOf, lowerPoint, fuelRate}
 use Rattle.rules.proofs.StationFacts.{rating-range, points-range}
 use Rattle.rules.proofs.Curve.{loads-rise, lower-inside}
 use Rattle.laws.proofs.FuelMost.{rate-most}
 use Rattle.gensets.specs.Leaves.{lineRight}
-use Rattle.gensets.proofs.Line.{first-most, second-most, width-some, base-most, start-most}
+use Rattle.gensets.specs.declared.line.Line.{Line}
+use Rattle.gensets.specs.Burned.{perHour}
+use Rattle.gensets.specs.Lines.{lineFrom, rateOn}
+use Rattle.gensets.proofs.LineSmall.{right-rate}
 use Rattle.gensets.proofs.FuelFacts.{line-passes}
-use Rattle.steady.specs.CurveTable.{InRule, Readable}
+use Rattle.steady.specs.CurveTable.{InRule, lineNumbers, Readable}
 
 -- 1 where a line begins at or below a power x 1000
 abbrev pub begun : ℕ → ℕ → ℕ
@@ -89,14 +91,14 @@ module _ {g : GenSet} {lines : List ℕ} {base power : ℕ} (h : Readable g line
   thousands = omega (arith, h .power-most, rating-range g (right .numbers) .1)
 
   -- where a line begins
-  begins : (j : ℕ) → suc j < g .points → getD lines (base + j * 5) 0 ≡ loadAt g j * g .rating
+  begins : (j : ℕ) → suc j < g .points → getD lines (base + j * 4) 0 ≡ loadAt g j * g .rating
   begins j l =
-      let e : base + j * 5 + 0 ≡ base + j * 5 = omega arith in
+      let e : base + j * 4 + 0 ≡ base + j * 4 = omega arith in
       ap (λ (p : ℕ). getD lines p 0) (sym e) ∙ h .curve .line j l .number 0 (omega arith)
 
-  pub line-counted : begun (getD lines (base + 5) 0) (power * 1000) + begun (getD lines (base + 10) 0) (power * 1000) + begun (getD lines (base + 15) 0) (power * 1000) ≡ lowerPoint g power
+  pub line-counted : begun (getD lines (base + 4) 0) (power * 1000) + begun (getD lines (base + 8) 0) (power * 1000) + begun (getD lines (base + 12) 0) (power * 1000) ≡ lowerPoint g power
   line-counted =
-      counted-lower g power right (λ j. getD lines (base + j * 5) 0) begins (λ j l k. omega (arith, h .curve .beyond j l k, thousands))
+      counted-lower g power right (λ j. getD lines (base + j * 4) 0) begins (λ j l k. omega (arith, h .curve .beyond j l k, thousands))
 
   -- ---- the line of the lower point
 
@@ -110,41 +112,28 @@ module _ {g : GenSet} {lines : List ℕ} {base power : ℕ} (h : Readable g line
     in-line : lineRight g j ≡ true
     in-line = rw lower (line-passes g (right .numbers) (right .pairs) power)
 
-    pub its-start : getD lines (base + j * 5) 0 ≡ loadAt g j * g .rating
+    its-start : getD lines (base + j * 4) 0 ≡ loadAt g j * g .rating
     its-start = begins j inside
 
-    pub its-width : getD lines (base + j * 5 + 1) 0 ≡ g .rating * stepAt g j
-    its-width = h .curve .line j inside .number 1 (omega arith)
+    number : (k : ℕ) → k < 4 → getD lines (base + j * 4 + k) 0 ≡ getD (lineNumbers (lineFrom g j)) k 0
+    number = h .curve .line j inside .number
 
-    pub its-base : getD lines (base + j * 5 + 2) 0 ≡ rateAt g j * (g .rating * stepAt g j)
-    its-base = h .curve .line j inside .number 2 (omega arith)
+    -- the line that stands there
+    abbrev standing : Line
+    standing = record {
+      start = getD lines (base + j * 4) 0;
+      width = getD lines (base + j * 4 + 1) 0;
+      first = getD lines (base + j * 4 + 2) 0;
+      second = getD lines (base + j * 4 + 3) 0;
+    }
 
-    pub its-first : getD lines (base + j * 5 + 3) 0 ≡ rateAt g j
-    its-first = h .curve .line j inside .number 3 (omega arith)
+    stands : standing ≡ lineFrom g j
+    stands = rw (its-start, number 1 (omega arith), number 2 (omega arith), number 3 (omega arith))
 
-    pub its-second : getD lines (base + j * 5 + 4) 0 ≡ rateAt g (suc j)
-    its-second = h .curve .line j inside .number 4 (omega arith)
-
-    pub start-fits : getD lines (base + j * 5) 0 ≤ 34_359_738_368
-    start-fits = rw its-start (le-trans (start-most g j in-line) (omega arith))
-
-    pub base-fits : getD lines (base + j * 5 + 2) 0 ≤ 150_000_000_000_000_000
-    base-fits = rw its-base (base-most g j in-line)
-
-    pub first-fits : getD lines (base + j * 5 + 3) 0 ≤ 16_777_216
-    first-fits = omega (arith, its-first, first-most g j in-line)
-
-    pub second-fits : getD lines (base + j * 5 + 4) 0 ≤ 16_777_216
-    second-fits = omega (arith, its-second, second-most g j in-line)
-
-    pub some-width : 0 < getD lines (base + j * 5 + 1) 0
-    some-width = rw its-width (width-some g j in-line)
-
-    -- the height there, over the width, is the rate
-    pub rate-read : (top : ℕ)
-        → top ≡ notBelowZero (pos (getD lines (base + j * 5 + 2) 0) +ℤ (pos (getD lines (base + j * 5 + 4) 0) -ℤ pos (getD lines (base + j * 5 + 3) 0)) *ℤ (pos (power * 1000) -ℤ pos (getD lines (base + j * 5) 0)))
-        → (top / getD lines (base + j * 5 + 1) 0 ≡ fuelRate g power) × (top / getD lines (base + j * 5 + 1) 0 ≤ 15_000_000_000)
-    unfolding fuelRate exactFrom exactLine
-    rate-read top e =
-        let same : top / getD lines (base + j * 5 + 1) 0 ≡ fuelRate g power = rw (e, its-base, its-second, its-first, its-start, its-width, lower) in
+    -- the rate on it is the set's
+    pub rate-read : (perHour (rateOn standing (power * 1000)) ≡ fuelRate g power) × (perHour (rateOn standing (power * 1000)) ≤ 15_000_000_000)
+    unfolding fuelRate
+    rate-read =
+        let near : power * 1000 ≤ 20_000_000_000 = omega (arith, thousands) in
+        let same : perHour (rateOn standing (power * 1000)) ≡ fuelRate g power = rw (stands, right-rate g j in-line power near, lower) in
         (same, rw same (rate-most g (right .numbers) (right .pairs) power (h .power-most)))

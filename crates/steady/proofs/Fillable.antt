@@ -33,7 +33,7 @@ module _ (st : Station) (given : someFileGives st ≡ true) (r : Run) (p : possi
           let off : stateAt (r .sets) i .mode ≡ Off = unused-off (setAt (st .sets) i) (stateAt (r .sets) i) (r .done) h in
           never (sym (ap isOn off) ∙ on)
 
-  pub fillable : (on : ℕ) → on ≡ onMask (r .sets) → (sums lines : List ℕ) → length sums ≡ 8 → length lines ≡ 160 → Fillable (st .sets) on sums lines
+  pub fillable : (on : ℕ) → on ≡ onMask (r .sets) → (sums lines : List ℕ) → length sums ≡ 8 → length lines ≡ 128 → Fillable (st .sets) on sums lines
   unfolding onMask
   fillable on e sums lines size room = record {
     sums-length = size;

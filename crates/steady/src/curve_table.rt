@@ -2,48 +2,45 @@
 // reads them and does not work them out anew.
 ghost use mathlib.Core.Path.{_≡_};
 ghost use Prim.Native.Nat.{suc, _+_, _*_, _≤_, _<_};
-ghost use lib.IntN.{pos, _+ℤ_, _-ℤ_, _*ℤ_};
 ghost use lib.ListN.{length};
 ghost use lib.Dec.{leb};
 ghost use Rattle.rules.specs.Numbers.{if_then_else_};
-ghost use Rattle.rules.specs.Fuel.{notBelowZero, lowerPoint, fuelRate};
+ghost use Rattle.rules.specs.Fuel.{lowerPoint, fuelRate};
 ghost use Rattle.steady.specs.CurveTable.{InRule, LineAt, CurveAt, Untouched, Tabled, Fillable, Readable};
+use gensets::fuel::per_hour;
+use gensets::line::Line;
+use gensets::line::line_of;
+use gensets::line::rate_on;
 use rules::station::GenSet;
 use words::masks::next_set;
 
 // Each set has so many places of the table of lines, and each of its lines so many of those.
-const PER_SET: usize = 20;
+const PER_SET: usize = 16;
 
-const PER_LINE: usize = 5;
+const PER_LINE: usize = 4;
 
 // Where a set's lines after the first stand among its places.
-const SECOND_LINE: usize = 5;
+const SECOND_LINE: usize = 4;
 
-const THIRD_LINE: usize = 10;
+const THIRD_LINE: usize = 8;
 
-const FOURTH_LINE: usize = 15;
+const FOURTH_LINE: usize = 12;
 
 // The line through the points j and j + 1, from a place on.
 fn put_line(genset: GenSet, j: usize, at: usize, lines: &mut [u64])
-    requires { ⌜ InRule genset × (suc j < genset .points) × (at + 5 ≤ length (now lines)) ⌝ }
+    requires { ⌜ InRule genset × (suc j < genset .points) × (at + 4 ≤ length (now lines)) ⌝ }
     ensures { λ r. ⌜ LineAt genset j (now (lines .exit)) at × Untouched (now (lines .entry)) (now (lines .exit)) at ⌝ }
 {
-    let loads = genset.loads;
-    let rates = genset.rates;
-    let rating = genset.rating as u64;
-    let load = loads[j] as u64;
-    let rate = rates[j] as u64;
-    let width = rating * (loads[j + 1] as u64 - load);
-    lines[at] = load * rating;
-    lines[at + 1] = width;
-    lines[at + 2] = rate * width;
-    lines[at + 3] = rate;
-    lines[at + 4] = rates[j + 1] as u64;
+    let line = line_of(genset, j);
+    lines[at] = line.start;
+    lines[at + 1] = line.width;
+    lines[at + 2] = line.first;
+    lines[at + 3] = line.second;
 }
 
 // A set's lines, from a place on.
 fn put_lines(genset: GenSet, base: usize, lines: &mut [u64])
-    requires { ⌜ InRule genset × (base + 20 ≤ length (now lines)) ⌝ }
+    requires { ⌜ InRule genset × (base + 16 ≤ length (now lines)) ⌝ }
     ensures { λ r. ⌜ CurveAt genset (now (lines .exit)) base × Untouched (now (lines .entry)) (now (lines .exit)) base ⌝ }
 {
     let mut j: usize = 0;
@@ -88,7 +85,7 @@ fn passed(start: u64, at: u64) -> usize
 }
 
 // The place of a power's line among the set's: loads rise, so that as many of the lines after the first have begun.
-fn line_at(genset: GenSet, base: usize, lines: &[u64; 160], power: u64) -> usize
+fn line_at(genset: GenSet, base: usize, lines: &[u64; 128], power: u64) -> usize
     requires { ⌜ Readable genset (now lines) base power ⌝ }
     ensures { λ r. ⌜ r ≡ lowerPoint genset power ⌝ }
 {
@@ -99,33 +96,18 @@ fn line_at(genset: GenSet, base: usize, lines: &[u64; 160], power: u64) -> usize
     second + third + fourth
 }
 
-// How high a line is, times its width, at a power x 1000; never below zero.
-fn height(start: u64, base: u64, first: u64, second: u64, at: u64) -> u64
-    requires { ⌜ (start ≤ 34_359_738_368) × (base ≤ 150_000_000_000_000_000) × (first ≤ 16_777_216) × (second ≤ 16_777_216) × (at ≤ 34_359_738_368) ⌝ }
-    ensures { λ r. ⌜ r ≡ notBelowZero (pos base +ℤ (pos second -ℤ pos first) *ℤ (pos at -ℤ pos start)) ⌝ }
-{
-    let rise = (second as i64) - (first as i64);
-    let run = (at as i64) - (start as i64);
-    let exact = (base as i64) + rise * run;
-    if exact < 0 {
-        return 0;
-    }
-    exact as u64
-}
-
 // What a set burns in a second at a power. The set is named for the contract alone: its lines stand in the table.
-pub(crate) fn burned_at(genset: GenSet, place: usize, lines: &[u64; 160], power: u64) -> u64
-    requires { ⌜ Readable genset (now lines) (place * 20) power ⌝ }
+pub(crate) fn burned_at(genset: GenSet, place: usize, lines: &[u64; 128], power: u64) -> u64
+    requires { ⌜ Readable genset (now lines) (place * 16) power ⌝ }
     ensures { λ r. ⌜ (r ≡ fuelRate genset power) × (r ≤ 15_000_000_000) ⌝ }
 {
     let base = place * PER_SET;
     let line = base + line_at(genset, base, lines, power) * PER_LINE;
-    let top = height(
-        lines[line],
-        lines[line + 2],
-        lines[line + 3],
-        lines[line + 4],
-        power * 1000,
-    );
-    top / lines[line + 1]
+    let taken = Line {
+        start: lines[line],
+        width: lines[line + 1],
+        first: lines[line + 2],
+        second: lines[line + 3],
+    };
+    per_hour(rate_on(taken, power * 1000))
 }

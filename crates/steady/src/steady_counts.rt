@@ -18,7 +18,7 @@ use words::masks::next_set;
 pub(crate) fn count_steady(
     sets: [GenSet; 8],
     sums: &[u64; 8],
-    lines: &[u64; 160],
+    lines: &[u64; 128],
     mask: u32,
     diesel: u32,
     cap: u32,

@@ -77,7 +77,7 @@ pub(crate) fn steady_seconds(
     let mut energies = [0u64; 8];
     let mut fuels = [0u64; 8];
     let mut sums = [0u64; 8];
-    let mut lines = [0u64; 160];
+    let mut lines = [0u64; 128];
     fill_tables(sets, steady.on, &mut sums, &mut lines);
     let from = Stretch { steady, moment };
     let walked = steady_walk(

@@ -53,7 +53,7 @@ pub(crate) fn steady_step(
     energies: &mut [u64],
     fuels: &mut [u64],
     sums: &[u64; 8],
-    lines: &[u64; 160],
+    lines: &[u64; 128],
 ) -> Gone
     requires { ⌜ Kept st steady × NoEvent (st .sets) (steady .states) (standing .ran + 1) × Admitted st (runAt steady standing (now energies) (now fuels) (now decided)) inputs × Rated (st .sets) (st .configs) (now caps) × (length (now decided) ≡ 60) × (length (now energies) ≡ 8) × (length (now fuels) ≡ 8) × Tabled (st .sets) (steady .on) (now sums) (now lines) ⌝ }
     ensures { λ r. ⌜ SteadyStepped st steady standing (runAt steady standing (now (energies .entry)) (now (fuels .entry)) (now (decided .entry))) inputs r (now (energies .exit)) (now (fuels .exit)) (now (decided .exit)) ⌝ }

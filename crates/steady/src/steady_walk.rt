@@ -32,7 +32,7 @@ pub(crate) fn steady_walk(
     fuels: &mut [u64],
     rows: &mut [u64],
     sums: &[u64; 8],
-    lines: &[u64; 160],
+    lines: &[u64; 128],
 ) -> Standing
     requires { ⌜ Walkable st (from .steady) (from .moment) (now inputs) (now decided) (now energies) (now fuels) (now rows) × Rated (st .sets) (st .configs) (now caps) × Tabled (st .sets) (from .steady .on) (now sums) (now lines) ⌝ }
     ensures { λ r. ⌜ Walks st (from .steady) (runOf (from .moment) (sinceSteady (from .steady .states) (from .steady .on) 0 (now (energies .entry)) (now (fuels .entry))) (now (decided .entry))) (inputsEach (now (inputs .entry))) (now (rows .entry)) (r .moment) (r .ran) (now (energies .exit)) (now (fuels .exit)) (now (decided .exit)) (now (rows .exit)) ⌝ }

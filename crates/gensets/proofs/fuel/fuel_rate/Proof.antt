@@ -1,12 +1,13 @@
 -- `fuel::fuel_rate` meets its contract: each answer is the one that its tests leave. Assumes nothing.
 use borrow.Author.Needs.{needs}
-use mathlib.Core.Path.{_≡_, sym, ap, _∙_}
+use mathlib.Core.Path.{_≡_, sym, _∙_}
 use mathlib.Core.Bool.{true}
+use Prim.Native.Nat.{_*_, _≤_}
 use native.Mathlib.Omega.{arith}
 use borrow.Author.Tests.{not-true, not-false}
-use Rattle.gensets.specs.declared.fuel.Rate.{Rate}
 use Rattle.gensets.specs.Leaves.{lineRight}
-use Rattle.gensets.proofs.Line.{rated}
+use Rattle.gensets.proofs.LineRight.{rated}
+use Rattle.gensets.proofs.LineSmall.{line-at, right-rate}
 use Rattle.gensets.proofs.FuelFacts.{too-few, too-many, line-wrong, power-over, rate-given}
 use Rattle.gensets.proofs.fuel.fuel_rate.Statement.{statement}
 use Rattle.gensets.proofs.fuel.fuel_rate.Tie as tie
@@ -43,15 +44,25 @@ returns-4 c =
     let lower = c .before .before .before .before .lower-point in
     power-over (s .args .g) (s .args .power) (search needs) (search needs) (lower .result) (lower .ensures .0) (right (c .before .before)) (omega arith)
 
-line-rate-requires : tie.Need-line-rate-requires
-line-rate-requires c κs = (search needs, right (c .before .before), omega arith)
+line-of-requires : tie.Need-line-of-requires
+line-of-requires c κs = search needs
+
+product-requires : tie.Need-product-requires
+product-requires c κs = search needs
+
+rate-on-requires : tie.Need-rate-on-requires
+rate-on-requires c κs = search needs
 
 returns-5 : tie.Need-returns-5
 returns-5 c =
-    let s = c .before .before .before .before .before .before .before .before .before .before in
-    let lower = c .before .before .before .before .before .lower-point in
-    ap Rate.PerHour (c .line-rate .ensures)
-    ∙ rate-given (s .args .g) (s .args .power) (search needs) (search needs) (lower .result) (lower .ensures .0) (right (c .before .before .before)) (omega arith)
+    let over = c .before .before .before in
+    let s = over .before .before .before .before .before .before .before .before .before in
+    let lower = over .before .before .before .before .lower-point in
+    let line = right (over .before .before) in
+    let near : s .args .power * 1000 ≤ 20_000_000_000 = omega (arith, rated (s .args .g) (lower .result) line) in
+    rw (c .rate-on .ensures, c .before .product .ensures, c .before .before .line-of .ensures, line-at (s .args .g) (lower .result) (omega arith))
+    (right-rate (s .args .g) (lower .result) line (s .args .power) near
+    ∙ rate-given (s .args .g) (s .args .power) (search needs) (search needs) (lower .result) (lower .ensures .0) line (omega arith))
 
 pub fuel-rate-spec : {M : Type 1} → statement M
 fuel-rate-spec =
@@ -64,5 +75,7 @@ fuel-rate-spec =
     returns-3
     mul-if4
     returns-4
-    line-rate-requires
+    line-of-requires
+    product-requires
+    rate-on-requires
     returns-5)

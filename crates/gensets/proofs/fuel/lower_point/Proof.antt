@@ -4,7 +4,7 @@ use mathlib.Core.Path.{_≡_, refl, sym, _∙_}
 use Prim.Native.Nat.{_-_, _≤_}
 use native.Mathlib.Omega.{arith}
 use Rattle.rules.specs.Fuel.{lowerOf, lowerPoint}
-use Rattle.gensets.proofs.Line.{point-taken, point-passed}
+use Rattle.gensets.proofs.LineRight.{point-taken, point-passed}
 use Rattle.gensets.proofs.fuel.lower_point.Statement.{statement}
 use Rattle.gensets.proofs.fuel.lower_point.Tie as tie
 

@@ -1,7 +1,9 @@
 -- `steady::curve_table::burned_at` meets its contract. Assumes nothing.
 use borrow.Author.Needs.{needs}
+use mathlib.Core.Path.{_≡_, ap, _∙_}
 use native.Mathlib.Omega.{arith}
-use Rattle.steady.proofs.CurveRead.{thousands, within-table, start-fits, base-fits, first-fits, second-fits, some-width, rate-read}
+use Rattle.gensets.specs.Burned.{perHour}
+use Rattle.steady.proofs.CurveRead.{within-table, rate-read}
 use Rattle.steady.proofs.curve_table.burned_at.Statement.{statement}
 use Rattle.steady.proofs.curve_table.burned_at.Tie as tie
 
@@ -17,67 +19,52 @@ mul-line c = let at = c in omega (arith, within-table (at .before .pre) _ (at .l
 add-line : tie.Need-add-line
 add-line c = let at = c in omega (arith, within-table (at .before .pre) _ (at .line-at .ensures))
 
-mul-height : tie.Need-mul-height
-mul-height c = let at = c in omega (arith, within-table (at .before .pre) _ (at .line-at .ensures))
+mul-rate-on : tie.Need-mul-rate-on
+mul-rate-on c = let at = c in omega (arith, within-table (at .before .pre) _ (at .line-at .ensures))
 
-element-copy-out-height : tie.Need-element-copy-out-height
-element-copy-out-height c = let at = c in omega (arith, within-table (at .before .pre) _ (at .line-at .ensures))
+element-copy-out-rate-on : tie.Need-element-copy-out-rate-on
+element-copy-out-rate-on c = let at = c in omega (arith, within-table (at .before .pre) _ (at .line-at .ensures))
 
-add-height : tie.Need-add-height
-add-height c = let at = c .before in omega (arith, within-table (at .before .pre) _ (at .line-at .ensures))
+add-t9 : tie.Need-add-t9
+add-t9 c = let at = c .before in omega (arith, within-table (at .before .pre) _ (at .line-at .ensures))
 
-mul-height-2 : tie.Need-mul-height-2
-mul-height-2 c = let at = c .before in omega (arith, within-table (at .before .pre) _ (at .line-at .ensures))
+mul-t13 : tie.Need-mul-t13
+mul-t13 c = let at = c .before in omega (arith, within-table (at .before .pre) _ (at .line-at .ensures))
 
-element-copy-out-height-2 : tie.Need-element-copy-out-height-2
-element-copy-out-height-2 c = let at = c .before in omega (arith, within-table (at .before .pre) _ (at .line-at .ensures))
+element-copy-out-t16 : tie.Need-element-copy-out-t16
+element-copy-out-t16 c = let at = c .before in omega (arith, within-table (at .before .pre) _ (at .line-at .ensures))
 
-add-height-2 : tie.Need-add-height-2
-add-height-2 c = let at = c .before .before in omega (arith, within-table (at .before .pre) _ (at .line-at .ensures))
+add-t17 : tie.Need-add-t17
+add-t17 c = let at = c .before .before in omega (arith, within-table (at .before .pre) _ (at .line-at .ensures))
 
-mul-height-3 : tie.Need-mul-height-3
-mul-height-3 c = let at = c .before .before in omega (arith, within-table (at .before .pre) _ (at .line-at .ensures))
+mul-t18 : tie.Need-mul-t18
+mul-t18 c = let at = c .before .before in omega (arith, within-table (at .before .pre) _ (at .line-at .ensures))
 
-element-copy-out-height-3 : tie.Need-element-copy-out-height-3
-element-copy-out-height-3 c = let at = c .before .before in omega (arith, within-table (at .before .pre) _ (at .line-at .ensures))
+element-copy-out-t21 : tie.Need-element-copy-out-t21
+element-copy-out-t21 c = let at = c .before .before in omega (arith, within-table (at .before .pre) _ (at .line-at .ensures))
 
-add-height-3 : tie.Need-add-height-3
-add-height-3 c = let at = c .before .before .before in omega (arith, within-table (at .before .pre) _ (at .line-at .ensures))
+add-t22 : tie.Need-add-t22
+add-t22 c = let at = c .before .before .before in omega (arith, within-table (at .before .pre) _ (at .line-at .ensures))
 
-mul-height-4 : tie.Need-mul-height-4
-mul-height-4 c = let at = c .before .before .before in omega (arith, within-table (at .before .pre) _ (at .line-at .ensures))
+mul-t23 : tie.Need-mul-t23
+mul-t23 c = let at = c .before .before .before in omega (arith, within-table (at .before .pre) _ (at .line-at .ensures))
 
-element-copy-out-height-4 : tie.Need-element-copy-out-height-4
-element-copy-out-height-4 c = let at = c .before .before .before in omega (arith, within-table (at .before .pre) _ (at .line-at .ensures))
+element-copy-out-t26 : tie.Need-element-copy-out-t26
+element-copy-out-t26 c = let at = c .before .before .before in omega (arith, within-table (at .before .pre) _ (at .line-at .ensures))
 
-mul-height-5 : tie.Need-mul-height-5
-mul-height-5 c = search needs
+mul-rate-on-2 : tie.Need-mul-rate-on-2
+mul-rate-on-2 c = search needs
 
-height-requires : tie.Need-height-requires
-height-requires c κs =
-    let at = c .before .before .before .before in
-    let h = at .before .pre in
-    let lower = at .line-at .ensures in
-    (start-fits h _ lower, base-fits h _ lower, first-fits h _ lower, second-fits h _ lower, omega (arith, thousands h))
+rate-on-requires : tie.Need-rate-on-requires
+rate-on-requires c κs = search needs
 
-add-result : tie.Need-add-result
-add-result c = let at = c .before .before .before .before .before in omega (arith, within-table (at .before .pre) _ (at .line-at .ensures))
-
-mul-result : tie.Need-mul-result
-mul-result c = let at = c .before .before .before .before .before in omega (arith, within-table (at .before .pre) _ (at .line-at .ensures))
-
-element-copy-out-result : tie.Need-element-copy-out-result
-element-copy-out-result c = let at = c .before .before .before .before .before in omega (arith, within-table (at .before .pre) _ (at .line-at .ensures))
-
-div-result : tie.Need-div-result
-div-result c =
-    let at = c .before .before .before .before .before .before in
-    some-width (at .before .pre) _ (at .line-at .ensures)
+per-hour-requires : tie.Need-per-hour-requires
+per-hour-requires c κs = search needs
 
 returns : tie.Need-returns
 returns c =
     let at = c .before .before .before .before .before .before in
-    rate-read (at .before .pre) _ (at .line-at .ensures) _ (c .before .height .ensures)
+    rw (c .per-hour .ensures, c .before .rate-on .ensures) (rate-read (at .before .pre) _ (at .line-at .ensures))
 
 pub burned-at-spec : {M : Type 1} → statement M
 burned-at-spec =
@@ -87,21 +74,18 @@ burned-at-spec =
     line-at-requires
     mul-line
     add-line
-    mul-height
-    element-copy-out-height
-    add-height
-    mul-height-2
-    element-copy-out-height-2
-    add-height-2
-    mul-height-3
-    element-copy-out-height-3
-    add-height-3
-    mul-height-4
-    element-copy-out-height-4
-    mul-height-5
-    height-requires
-    add-result
-    mul-result
-    element-copy-out-result
-    div-result
+    mul-rate-on
+    element-copy-out-rate-on
+    add-t9
+    mul-t13
+    element-copy-out-t16
+    add-t17
+    mul-t18
+    element-copy-out-t21
+    add-t22
+    mul-t23
+    element-copy-out-t26
+    mul-rate-on-2
+    rate-on-requires
+    per-hour-requires
     returns)

@@ -56,7 +56,7 @@ loop-again-2 : tie.Need-loop-again-2 Inv-loop μ-loop
 loop-again-2 c =
     let at = c .before .before .before in
     let lines = at .loop .lines in
-    let place : ℕ = at .before .before .args .base + at .loop .j * 5 in
+    let place : ℕ = at .before .before .args .base + at .loop .j * 4 in
     let room : place < length lines = omega (arith, at .loop .inv .size) in
     drawing-more (at .loop .inv) (omega arith) (length-set lines place _) (record { below = take-set-le place lines place _ (omega arith) }) (λ l. absurd (omega arith)) (λ l. getD-set-same lines place _ 0 room)
 
