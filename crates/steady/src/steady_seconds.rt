@@ -79,11 +79,10 @@ pub(crate) fn steady_seconds(
     let mut sums = [0u64; 8];
     let mut lines = [0u64; 128];
     fill_tables(sets, steady.on, &mut sums, &mut lines);
-    let from = Stretch { steady, moment };
     let walked = steady_walk(
         st,
         caps,
-        from,
+        Stretch { steady, moment },
         inputs,
         decided,
         &mut energies,

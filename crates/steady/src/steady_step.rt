@@ -61,26 +61,14 @@ pub(crate) fn steady_step(
     let moment = standing.moment;
     let sets = st.sets;
     let on = steady.on;
-    let met = meet_load(
-        st,
-        moment.store,
-        steady.cap,
-        steady.floor,
-        oldest(decided),
-        inputs,
-    );
+    let cap = steady.cap;
+    let store = moment.store;
+    let floor = steady.floor;
+    let met = meet_load(st, store, cap, floor, oldest(decided), inputs);
     let watts = met.watts;
+    let diesel = watts.diesel;
     decide(st.control.delay, met.decided, decided);
-    count_steady(
-        sets,
-        sums,
-        lines,
-        on,
-        watts.diesel,
-        steady.cap,
-        energies,
-        fuels,
-    );
+    count_steady(sets, sums, lines, on, diesel, cap, energies, fuels);
     let chosen = commit_at(st, caps, steady.barred, moment, watts, inputs.sheddable);
     let call = chosen.call;
     Gone {

@@ -38,30 +38,19 @@ pub(crate) fn steady_walk(
     ensures { λ r. ⌜ Walks st (from .steady) (runOf (from .moment) (sinceSteady (from .steady .states) (from .steady .on) 0 (now (energies .entry)) (now (fuels .entry))) (now (decided .entry))) (inputsEach (now (inputs .entry))) (now (rows .entry)) (r .moment) (r .ran) (now (energies .exit)) (now (fuels .exit)) (now (decided .exit)) (now (rows .exit)) ⌝ }
 {
     let configs = st.configs;
-    let steady = from.steady;
+    let kept = from.steady;
     let count = inputs.len() / SECOND_INPUTS;
     let mut moment = from.moment;
     let mut ran: usize = 0;
     while ran < count {
         let x = first_inputs(&inputs[SECOND_INPUTS * ran..]);
-        let standing = Standing { moment, ran };
-        let gone = steady_step(
-            st,
-            caps,
-            steady,
-            standing,
-            x,
-            decided,
-            energies,
-            fuels,
-            sums,
-            lines,
-        );
+        let at = Standing { moment, ran };
+        let gone = steady_step(st, caps, kept, at, x, decided, energies, fuels, sums, lines);
         moment = gone.moment;
         let row = gone.row;
         put_row_numbers(row, &mut rows[ROW_COLUMNS * ran..]);
         ran += 1;
-        if mask_called(configs, moment.called) != steady.called {
+        if mask_called(configs, moment.called) != kept.called {
             return Standing { moment, ran };
         }
     }
