@@ -10,6 +10,7 @@ use gensets::share::capacity;
 use rules::limits::MOST_CONFIGURATIONS;
 use rules::station::GenSet;
 use rules::station::Station;
+use words::arithmetic::byte_u32;
 use words::arithmetic::over;
 
 // A configuration's mask of sets by its number; 0 and a number past the table call no set.
@@ -24,12 +25,6 @@ pub fn mask_called(configs: [u8; 64], called: usize) -> u32
         return 0;
     }
     configs[called - 1] as u32
-}
-
-fn wide(mask: u8) -> u32
-    ensures { λ r. ⌜ r ≡ mask ⌝ }
-{
-    mask as u32
 }
 
 // A capacity of 32 bits is compared as it is: a float has room for it.
@@ -75,7 +70,7 @@ pub fn capacities(sets: [GenSet; 8], configs: [u8; 64]) -> [u32; 64]
     let mut caps = [0u32; 64];
     let mut i: usize = 0;
     while i < 64 {
-        caps[i] = capacity_fitting(sets, wide(configs[i]));
+        caps[i] = capacity_fitting(sets, byte_u32(configs[i]));
         i += 1;
     }
     caps
@@ -94,7 +89,7 @@ fn first_covering(
 {
     let mut i: usize = 0;
     while i < configcount {
-        let mask = wide(configs[i]);
+        let mask = byte_u32(configs[i]);
         let cap = caps[i];
         i += 1;
         if usable_covering(barred, held, mask, cap) {
@@ -134,7 +129,7 @@ fn greatest_usable(configs: &[u8; 64], caps: &[u32; 64], configcount: usize, bar
     let mut greatest = Greatest { number: 0, most: 0 };
     let mut i: usize = 0;
     while i < configcount {
-        let mask = wide(configs[i]);
+        let mask = byte_u32(configs[i]);
         let cap = caps[i];
         i += 1;
         greatest = greater(greatest, barred, mask, cap, i);
@@ -171,7 +166,7 @@ fn called_covers(
         return false;
     }
     let place = called - 1;
-    usable_covering(barred, held, wide(configs[place]), caps[place])
+    usable_covering(barred, held, byte_u32(configs[place]), caps[place])
 }
 
 // The number of the configuration called in a second, after `called`, which is called since second `since`, by the mask of the

@@ -4,6 +4,7 @@ ghost use Prim.Native.Nat.{_+_, _*_, _^_, _≤_, _<_};
 ghost use lib.ListN.{length, drop, getD};
 ghost use Rattle.intake.specs.Tally.{noBytes, worth, atWordEnd, withByte, talliedOf, sameTally, WordTallied, WordsTallied};
 use std::num::wrapping_add_u64;
+use words::arithmetic::byte_u64;
 
 // How many bytes, the sum of their words of four bytes, and the sum of those sums after each word, which tells bytes and words
 // that changed places.
@@ -29,22 +30,15 @@ pub fn no_bytes() -> Tally
     }
 }
 
-// A byte is cast in a function of its own, so that the loop has only the index to show.
-fn wide(byte: u8) -> u64
-    ensures { λ r. ⌜ (r ≡ byte) × (r ≤ 255) ⌝ }
-{
-    byte as u64
-}
-
 // What a byte at this place of its word is worth.
 fn worth(place: u64, byte: u8) -> u64
     ensures { λ r. ⌜ r ≡ worth place byte ⌝ }
 {
     match place {
-        0 => wide(byte),
-        1 => wide(byte) * 256,
-        2 => wide(byte) * 65536,
-        _ => wide(byte) * 16777216,
+        0 => byte_u64(byte),
+        1 => byte_u64(byte) * 256,
+        2 => byte_u64(byte) * 65536,
+        _ => byte_u64(byte) * 16777216,
     }
 }
 
@@ -92,10 +86,10 @@ fn word_at(chunk: &[u8], at: usize) -> u64
     requires { ⌜ at + 4 ≤ length (now chunk) ⌝ }
     ensures { λ r. ⌜ r ≡ getD (now (chunk .entry)) at 0 + getD (now (chunk .entry)) (at + 1) 0 * 256 + getD (now (chunk .entry)) (at + 2) 0 * 65536 + getD (now (chunk .entry)) (at + 3) 0 * 16777216 ⌝ }
 {
-    wide(chunk[at])
-        + wide(chunk[at + 1]) * 256
-        + wide(chunk[at + 2]) * 65536
-        + wide(chunk[at + 3]) * 16777216
+    byte_u64(chunk[at])
+        + byte_u64(chunk[at + 1]) * 256
+        + byte_u64(chunk[at + 2]) * 65536
+        + byte_u64(chunk[at + 3]) * 16777216
 }
 
 // One word more, where a word begins.

@@ -1,5 +1,5 @@
 // What the rows' bytes come to: how many there are, and Fletcher's two sums over them, which are the same however the bytes are parted.
-ghost use Prim.Native.Nat.{_≤_};
+use words::arithmetic::byte_u64;
 
 // The largest prime below 65,536, as Adler takes it.
 const MODULUS: u64 = 65_521;
@@ -23,12 +23,6 @@ pub(crate) fn no_bytes() -> RowBytes {
     }
 }
 
-fn wide(byte: u8) -> u64
-    ensures { λ r. ⌜ r ≤ 255 ⌝ }
-{
-    byte as u64
-}
-
 // With the first `size` bytes of a buffer, which has that many.
 pub(crate) fn with_bytes(before: RowBytes, buffer: &[u8], size: usize) -> RowBytes {
     // never taken: no buffer here is larger, and no call answers more bytes than its buffer has
@@ -42,7 +36,7 @@ pub(crate) fn with_bytes(before: RowBytes, buffer: &[u8], size: usize) -> RowByt
     let mut high = before.high % MODULUS;
     let mut i: usize = 0;
     while i < size {
-        low += wide(buffer[i]);
+        low += byte_u64(buffer[i]);
         high += low;
         i += 1;
     }

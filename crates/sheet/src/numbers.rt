@@ -11,6 +11,7 @@ use rules::limits::MOST_KW_DIGITS;
 use rules::limits::MOST_POWER;
 use rules::limits::MOST_TIME;
 use rules::limits::MOST_TIME_DIGITS;
+use words::arithmetic::byte_u32;
 
 // What a cell comes to. `specs/Cells.antt` gives document 01's number for each case.
 pub enum CellValue {
@@ -23,13 +24,6 @@ pub enum CellValue {
 enum Digits {
     Number(u32),
     Malformed,
-}
-
-// A byte is cast in a function of its own, so that each caller has only the index to show.
-pub(crate) fn wide(byte: u8) -> u32
-    ensures { λ r. ⌜ r ≡ byte ⌝ }
-{
-    byte as u32
 }
 
 // "1 to 9 digits", "1 to 6 digits", "1 to 3 digits": the one reader of digits. The length is asked first, so that no sum wraps.
@@ -53,7 +47,7 @@ fn digits_of(part: &[u8], most: usize) -> Digits
         if b'9' < byte {
             return Digits::Malformed;
         }
-        number = number * 10 + wide(byte - b'0');
+        number = number * 10 + byte_u32(byte - b'0');
         i += 1;
     }
     Digits::Number(number)

@@ -8,7 +8,6 @@ ghost use Rattle.rules.specs.SampleFile.{timeCell, powerCell};
 ghost use Rattle.sheet.specs.Usual.{DigitsTaken, CellPart, timeOf, powerOf, powersOf, endOf, PowersNamed, usualOf};
 use crate::headings::Columns;
 use crate::numbers::last_worth;
-use crate::numbers::wide;
 use crate::rows::Powers;
 use crate::rows::value_under;
 use rules::limits::MOST_DECIMALS;
@@ -17,6 +16,7 @@ use rules::limits::MOST_POWER;
 use rules::limits::MOST_TIME;
 use rules::limits::MOST_TIME_DIGITS;
 use rules::samples::Sample;
+use words::arithmetic::byte_u32;
 
 // The most bytes that a usual row has: 9 digits, three powers of 10 bytes, three commas, CR and LF.
 const MOST_USUAL: usize = 44;
@@ -64,7 +64,7 @@ fn digits_from(text: &[u8], at: usize, most: usize, before: u32) -> DigitRun
     while taken < most {
         let i = at + taken;
         // one test for both ends: a byte below b'0' wraps to a large number
-        let digit = std::num::wrapping_sub_u32(wide(text[i]), 48);
+        let digit = std::num::wrapping_sub_u32(byte_u32(text[i]), 48);
         if 9 < digit {
             return DigitRun { end: i, number };
         }

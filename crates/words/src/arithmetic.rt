@@ -1,4 +1,5 @@
-// Of two numbers the smaller, the larger, and what one has over the other: said once for every crate that asks it.
+// Of two numbers the smaller, the larger, and what one has over the other, and casts to a wider number: said once for every crate
+// that asks it.
 ghost use mathlib.Core.Path.{_≡_};
 ghost use Prim.Native.Nat.{_-_, _≤_, min, max};
 
@@ -39,4 +40,19 @@ pub fn wide(number: u32) -> usize
     ensures { λ r. ⌜ r ≤ 4294967295 ⌝ }
 {
     number as usize
+}
+
+// A byte as a number: cast in a function of its own, so that each caller has only its bound to show.
+pub fn byte_u32(byte: u8) -> u32
+    ensures { λ r. ⌜ r ≡ byte ⌝ }
+    ensures { λ r. ⌜ r ≤ 255 ⌝ }
+{
+    byte as u32
+}
+
+pub fn byte_u64(byte: u8) -> u64
+    ensures { λ r. ⌜ r ≡ byte ⌝ }
+    ensures { λ r. ⌜ r ≤ 255 ⌝ }
+{
+    byte as u64
 }

@@ -3,14 +3,8 @@ ghost use mathlib.Core.Path.{_≡_};
 ghost use Prim.Native.Nat.{_<_, _^_, min};
 ghost use lib.ListN.{length};
 ghost use Rattle.rules.specs.Bytes.{little};
+use crate::arithmetic::byte_u64;
 use crate::arithmetic::lesser;
-
-// A byte is cast in a function of its own, so that each caller has only the index to show.
-fn wide(byte: u8) -> u64
-    ensures { λ r. ⌜ (r ≡ byte) × (r < 256) ⌝ }
-{
-    byte as u64
-}
 
 // The number in the first 8 bytes of a part; a byte that is not there counts 0.
 pub fn little(part: &[u8]) -> u64
@@ -21,7 +15,7 @@ pub fn little(part: &[u8]) -> u64
     let mut number: u64 = 0;
     while 0 < at {
         at -= 1;
-        number = number * 256 + wide(part[at]);
+        number = number * 256 + byte_u64(part[at]);
     }
     number
 }

@@ -21,11 +21,11 @@ returns-2 c =
 sub-place : tie.Need-sub-place
 sub-place c = search needs
 
-element-copy-out-wide : tie.Need-element-copy-out-wide
-element-copy-out-wide c = search needs
+element-copy-out-byte-u32 : tie.Need-element-copy-out-byte-u32
+element-copy-out-byte-u32 c = search needs
 
-wide-requires : tie.Need-wide-requires
-wide-requires c κs = search needs
+byte-u32-requires : tie.Need-byte-u32-requires
+byte-u32-requires c κs = search needs
 
 mul-usable-covering : tie.Need-mul-usable-covering
 mul-usable-covering c = search needs
@@ -39,10 +39,10 @@ usable-covering-requires c κs = search needs
 returns-3 : tie.Need-returns-3
 unfolding calledCovers
 returns-3 c =
-    let wide = c .before .before in
-    let left = wide .before .before in
+    let cast = c .before .before in
+    let left = cast .before .before in
     let start = left .before .before in
-    rw (← mask-some (now (start .args .configs)) (start .args .called) (left .before .if1 .left), ← wide .wide .ensures) (c .usable-covering .ensures)
+    rw (← mask-some (now (start .args .configs)) (start .args .called) (left .before .if1 .left), ← cast .byte-u32 .ensures .0) (c .usable-covering .ensures)
 
 pub called-covers-spec : {M : Type 1} → statement M
 called-covers-spec =
@@ -51,8 +51,8 @@ called-covers-spec =
     returns
     returns-2
     sub-place
-    element-copy-out-wide
-    wide-requires
+    element-copy-out-byte-u32
+    byte-u32-requires
     mul-usable-covering
     element-copy-out-usable-covering
     usable-covering-requires

@@ -20,11 +20,11 @@ abbrev μ-loop : tie.MeasureT-loop
 loop-holds : tie.Need-loop-holds Inv-loop μ-loop
 loop-holds c = filling-start _ _ 64 (search needs)
 
-array-read-wide : tie.Need-array-read-wide Inv-loop μ-loop
-array-read-wide c = search needs
+array-read-byte-u32 : tie.Need-array-read-byte-u32 Inv-loop μ-loop
+array-read-byte-u32 c = search needs
 
-wide-requires : tie.Need-wide-requires Inv-loop μ-loop
-wide-requires c κs = search needs
+byte-u32-requires : tie.Need-byte-u32-requires Inv-loop μ-loop
+byte-u32-requires c κs = search needs
 
 capacity-fitting-requires : tie.Need-capacity-fitting-requires Inv-loop μ-loop
 capacity-fitting-requires c κs = search needs
@@ -44,7 +44,7 @@ loop-less c = search needs
 loop-again : tie.Need-loop-again Inv-loop μ-loop
 loop-again c =
     let at = c .before .before .before in
-    filling-more _ _ 64 (at .loop .i) (at .loop .caps) (at .loop .inv) (search needs) _ (c .capacity-fitting .ensures ∙ rw (c .before .wide .ensures))
+    filling-more _ _ 64 (at .loop .i) (at .loop .caps) (at .loop .inv) (search needs) _ (c .capacity-fitting .ensures ∙ rw (c .before .byte-u32 .ensures .0))
 
 returns : tie.Need-returns Inv-loop μ-loop
 unfolding capacities
@@ -59,8 +59,8 @@ capacities-spec =
     Inv-loop
     μ-loop
     loop-holds
-    array-read-wide
-    wide-requires
+    array-read-byte-u32
+    byte-u32-requires
     capacity-fitting-requires
     mul-caps
     array-write-caps

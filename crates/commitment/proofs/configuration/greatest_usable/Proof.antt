@@ -22,11 +22,11 @@ abbrev μ-loop : tie.MeasureT-loop
 loop-holds : tie.Need-loop-holds Inv-loop μ-loop
 loop-holds c = (c .pre .0, c .pre .1, refl)
 
-element-copy-out-wide : tie.Need-element-copy-out-wide Inv-loop μ-loop
-element-copy-out-wide c = search needs
+element-copy-out-byte-u32 : tie.Need-element-copy-out-byte-u32 Inv-loop μ-loop
+element-copy-out-byte-u32 c = search needs
 
-wide-requires : tie.Need-wide-requires Inv-loop μ-loop
-wide-requires c κs = search needs
+byte-u32-requires : tie.Need-byte-u32-requires Inv-loop μ-loop
+byte-u32-requires c κs = search needs
 
 mul-cap : tie.Need-mul-cap Inv-loop μ-loop
 mul-cap c = search needs
@@ -45,13 +45,13 @@ loop-less c = search needs
 
 loop-again : tie.Need-loop-again Inv-loop μ-loop
 loop-again c =
-    let wide = c .before .before in
-    let at = wide .before .before .before in
+    let cast = c .before .before in
+    let at = cast .before .before .before in
     let a = at .before .args in (
       at .loop .inv .0,
       at .loop .inv .1,
       greatest-turn (now (a .caps)) (a .barred) (now (a .configs)) (a .configcount) (at .loop .i) (omega (arith, at .loop .inv .0, at .loop .inv .1)) (at .loop .greatest) _ (at .loop .inv .2) _ (search needs)
-          (rw (← wide .wide .ensures) (c .greater .ensures)),
+          (rw (← cast .byte-u32 .ensures .0) (c .greater .ensures)),
     )
 
 returns : tie.Need-returns Inv-loop μ-loop
@@ -67,8 +67,8 @@ greatest-usable-spec =
     Inv-loop
     μ-loop
     loop-holds
-    element-copy-out-wide
-    wide-requires
+    element-copy-out-byte-u32
+    byte-u32-requires
     mul-cap
     element-copy-out-cap
     add-i

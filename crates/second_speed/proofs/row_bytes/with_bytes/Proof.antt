@@ -20,11 +20,11 @@ returns-2 c = search needs
 loop-holds : tie.Need-loop-holds Inv-loop μ-loop
 loop-holds c = search needs
 
-shared-slice-read-wide : tie.Need-shared-slice-read-wide Inv-loop μ-loop
-shared-slice-read-wide c = search needs
+shared-slice-read-byte-u64 : tie.Need-shared-slice-read-byte-u64 Inv-loop μ-loop
+shared-slice-read-byte-u64 c = search needs
 
-wide-requires : tie.Need-wide-requires Inv-loop μ-loop
-wide-requires c κs = search needs
+byte-u64-requires : tie.Need-byte-u64-requires Inv-loop μ-loop
+byte-u64-requires c κs = search needs
 
 add-low : tie.Need-add-low Inv-loop μ-loop
 add-low c = search needs
@@ -56,8 +56,8 @@ with-bytes-spec =
     returns
     returns-2
     loop-holds
-    shared-slice-read-wide
-    wide-requires
+    shared-slice-read-byte-u64
+    byte-u64-requires
     add-low
     add-high
     add-i

@@ -12,7 +12,7 @@ use Rattle.sheet.proofs.numbers.digits_of.Statement.{statement}
 use Rattle.sheet.proofs.numbers.digits_of.Tie as tie
 use Rattle.sheet.proofs.numbers.digits_of.Reads as reads
 use Rattle.sheet.proofs.numbers.digits_of.Lts as lts
-use Rattle.sheet.proofs.numbers.wide.Reads as wide-reads
+use Rattle.words.proofs.arithmetic.byte_u32.Reads as byte-u32-reads
 
 abbrev Inv-loop : tie.InvT-loop
 Inv-loop part most number₀ i₀ number i =
@@ -50,8 +50,8 @@ mul-number : tie.Need-mul-number Inv-loop μ-loop
 mul-number c = omega (arith, below-most (c .before .before .before .before .loop .i) 8 (c .before .before .before .before .loop .number) (omega arith) (c .before .before .before .before .loop .inv .2))
 
 -- src/numbers.rt:56:32
-wide-requires : tie.Need-wide-requires Inv-loop μ-loop
-wide-requires c κs = search needs
+byte-u32-requires : tie.Need-byte-u32-requires Inv-loop μ-loop
+byte-u32-requires c κs = search needs
 
 -- src/numbers.rt:56:18
 add-number : tie.Need-add-number Inv-loop μ-loop
@@ -69,7 +69,7 @@ loop-less c = search needs
 loop-again : tie.Need-loop-again Inv-loop μ-loop
 loop-again c =
     let at = c .before .before .before .before .before .loop in
-    let e = c .wide .ensures in (
+    let e = c .byte-u32 .ensures .0 in (
       omega arith,
       at .inv .1,
       rw (add-one, e) (below-more (at .i) (at .number) _ (at .inv .2) (omega arith)),
@@ -93,7 +93,7 @@ digits-of-spec =
     returns-3
     returns-4
     mul-number
-    wide-requires
+    byte-u32-requires
     add-number
     add-i
     loop-less

@@ -8,7 +8,7 @@ use Rattle.sheet.proofs.usual.digits_from.Statement.{statement}
 use Rattle.sheet.proofs.usual.digits_from.Tie as tie
 use Rattle.sheet.proofs.usual.digits_from.Reads as reads
 use Rattle.sheet.proofs.usual.digits_from.Lts as lts
-use Rattle.sheet.proofs.numbers.wide.Reads as wide-reads
+use Rattle.words.proofs.arithmetic.byte_u32.Reads as byte-u32-reads
 use Rattle.std.proofs.num.wrapping_sub_u32.Reads as wrapping-sub-u32-reads
 
 abbrev Inv-loop : tie.InvT-loop
@@ -26,12 +26,12 @@ add-i : tie.Need-add-i Inv-loop μ-loop
 add-i c = search needs
 
 -- src/usual.rt:54:53
-shared-slice-read-wide : tie.Need-shared-slice-read-wide Inv-loop μ-loop
-shared-slice-read-wide c = omega (arith, c .before .loop-test .taken, c .before .before .loop .inv .2 .within)
+shared-slice-read-byte-u32 : tie.Need-shared-slice-read-byte-u32 Inv-loop μ-loop
+shared-slice-read-byte-u32 c = omega (arith, c .before .loop-test .taken, c .before .before .loop .inv .2 .within)
 
 -- src/usual.rt:54:48
-wide-requires : tie.Need-wide-requires Inv-loop μ-loop
-wide-requires c κs = search needs
+byte-u32-requires : tie.Need-byte-u32-requires Inv-loop μ-loop
+byte-u32-requires c κs = search needs
 
 -- src/usual.rt:54:13
 wrapping-sub-u32-requires : tie.Need-wrapping-sub-u32-requires Inv-loop μ-loop
@@ -59,7 +59,7 @@ loop-less c = search needs
 
 -- src/usual.rt:51:5
 loop-again : tie.Need-loop-again Inv-loop μ-loop
-loop-again c = (c .before .before .before .before .before .loop .inv .0, c .before .before .before .before .before .loop .inv .1, taking-digit (c .before .before .before .before .before .before .before .args .text .now) (c .before .before .before .before .before .before .before .args .at) (c .before .before .before .before .before .before .before .args .most) (c .before .before .before .before .before .before .before .args .before) (c .before .before .before .before .before .loop .taken) (c .before .before .before .before .before .loop .number) (c .before .wrapping-sub-u32 .result) (c .before .before .before .before .before .loop .inv .2) (c .before .before .before .before .loop-test .taken) (c .before .wrapping-sub-u32 .ensures ∙ c .before .before .wide .ensures) (c .if1 .left))
+loop-again c = (c .before .before .before .before .before .loop .inv .0, c .before .before .before .before .before .loop .inv .1, taking-digit (c .before .before .before .before .before .before .before .args .text .now) (c .before .before .before .before .before .before .before .args .at) (c .before .before .before .before .before .before .before .args .most) (c .before .before .before .before .before .before .before .args .before) (c .before .before .before .before .before .loop .taken) (c .before .before .before .before .before .loop .number) (c .before .wrapping-sub-u32 .result) (c .before .before .before .before .before .loop .inv .2) (c .before .before .before .before .loop-test .taken) (c .before .wrapping-sub-u32 .ensures ∙ c .before .before .byte-u32 .ensures .0) (c .if1 .left))
 
 -- src/usual.rt:62:14
 add-t13 : tie.Need-add-t13 Inv-loop μ-loop
@@ -77,8 +77,8 @@ digits-from-spec =
     μ-loop
     loop-holds
     add-i
-    shared-slice-read-wide
-    wide-requires
+    shared-slice-read-byte-u32
+    byte-u32-requires
     wrapping-sub-u32-requires
     returns
     mul-number

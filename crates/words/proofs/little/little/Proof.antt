@@ -11,7 +11,7 @@ use Rattle.words.proofs.little.little.Tie as tie
 use Rattle.words.proofs.little.little.Reads as reads
 use Rattle.words.proofs.little.little.Lts as lts
 use Rattle.words.proofs.arithmetic.lesser.Reads as lesser-reads
-use Rattle.words.proofs.little.wide.Reads as wide-reads
+use Rattle.words.proofs.arithmetic.byte_u64.Reads as byte-u64-reads
 
 abbrev Inv-loop : tie.InvT-loop
 Inv-loop part at₀ number₀ at number = (at ≤ at₀) × (at₀ ≡ min 8 (length part)) × (number ≡ little (8 - at) (drop at part)) × (number < 256 ^ (at₀ - at))
@@ -38,17 +38,17 @@ mul-number c =
     let most = at .before .lesser .result in
     record { fits = omega (arith, below-most (suc (most - at .loop .at)) _ (search needs) (below-turn (most - at .loop .at) (at .loop .number) 0 (at .loop .inv .3) (omega arith))) }
 
-shared-slice-read-wide : tie.Need-shared-slice-read-wide Inv-loop μ-loop
-shared-slice-read-wide c = search needs
+shared-slice-read-byte-u64 : tie.Need-shared-slice-read-byte-u64 Inv-loop μ-loop
+shared-slice-read-byte-u64 c = search needs
 
-wide-requires : tie.Need-wide-requires Inv-loop μ-loop
-wide-requires c κs = search needs
+byte-u64-requires : tie.Need-byte-u64-requires Inv-loop μ-loop
+byte-u64-requires c κs = search needs
 
 add-number : tie.Need-add-number Inv-loop μ-loop
 add-number c =
     let at = c .before .before .before in
     let most = at .before .lesser .result in
-    record { fits = below-most (suc (most - at .loop .at)) _ (search needs) (below-turn (most - at .loop .at) (at .loop .number) (c .wide .result) (at .loop .inv .3) (c .wide .ensures .1)) }
+    record { fits = below-most (suc (most - at .loop .at)) _ (search needs) (below-turn (most - at .loop .at) (at .loop .number) (c .byte-u64 .result) (at .loop .inv .3) (omega (arith, c .byte-u64 .ensures .1))) }
 
 loop-less : tie.Need-loop-less Inv-loop μ-loop
 loop-less c = search needs
@@ -60,7 +60,7 @@ loop-again c =
     let most = at .before .lesser .result in
     let i = at .loop .inv in
     let p : 0 < at .loop .at = search needs in
-    (omega arith, i .1, read-turn (at .loop .at) (at .loop .number) (c .wide .result) s p (omega (arith, i .0, i .1)) (omega (arith, i .0, i .1)) (i .2) (c .wide .ensures .0), below-next most (at .loop .at) (at .loop .number) (c .wide .result) p (i .0) (i .3) (c .wide .ensures .1))
+    (omega arith, i .1, read-turn (at .loop .at) (at .loop .number) (c .byte-u64 .result) s p (omega (arith, i .0, i .1)) (omega (arith, i .0, i .1)) (i .2) (c .byte-u64 .ensures .0), below-next most (at .loop .at) (at .loop .number) (c .byte-u64 .result) p (i .0) (i .3) (omega (arith, c .byte-u64 .ensures .1)))
 
 returns : tie.Need-returns Inv-loop μ-loop
 returns c =
@@ -79,8 +79,8 @@ little-spec =
     loop-holds
     sub-at
     mul-number
-    shared-slice-read-wide
-    wide-requires
+    shared-slice-read-byte-u64
+    byte-u64-requires
     add-number
     loop-less
     loop-again
