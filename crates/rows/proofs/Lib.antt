@@ -3,9 +3,11 @@ pub mod Decimals
 pub mod LastDigits
 pub mod FourDigits
 pub mod Texts
+pub mod Again
 pub mod Lines
 pub mod RowInBuffer
 pub mod Room
 pub mod SetLine
 pub mod Lengths
 pub mod RowLines
+pub mod Kept

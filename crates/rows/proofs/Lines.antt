@@ -38,14 +38,18 @@ line-ends [] x = refl
 line-ends (y ∷ []) x = simp append-assoc
 line-ends (y ∷ z ∷ xs) x = simp (line-ends (z ∷ xs) x, append-assoc)
 
-line-last : (xs : List ℕ) (i : ℕ) → i + 1 ≡ length xs → commaLine xs ≡ commaed (take i xs) ++ ended (getD xs i 0) LF
+pub line-last : (xs : List ℕ) (i : ℕ) → i + 1 ≡ length xs → commaLine xs ≡ commaed (take i xs) ++ ended (getD xs i 0) LF
 line-last xs i e =
     let whole : take (suc i) xs ≡ xs = take-all (suc i) xs (omega arith) in
     ap commaLine (sym whole ∙ take-suc xs i 0 (omega arith)) ∙ line-ends (take i xs) (getD xs i 0)
 
-pub line-last-on : (before xs : List ℕ) (i : ℕ) → i + 1 ≡ length xs → (before ++ commaed (take i xs)) ++ ended (getD xs i 0) LF ≡ before ++ commaLine xs
-line-last-on before xs i e =
-    append-assoc before (commaed (take i xs)) (ended (getD xs i 0) LF) ∙ ap (λ (t : List ℕ). before ++ t) (sym (line-last xs i e))
+-- a line in two parts
+pub line-parts : (xs ys : List ℕ) → 1 ≤ length ys → commaLine (xs ++ ys) ≡ commaed xs ++ commaLine ys
+unfolding commaLine commaed ended
+line-parts [] ys h = refl
+line-parts (x ∷ []) [] h = absurd (omega arith)
+line-parts (x ∷ []) (y ∷ ys) h = simp append-assoc
+line-parts (x ∷ z ∷ xs) ys h = simp (line-parts (z ∷ xs) ys h, append-assoc)
 
 -- ---- the line's length
 
@@ -60,7 +64,8 @@ pub line-length : (xs : List ℕ) → 1 ≤ length xs → length (commaLine xs) 
 line-length [] h = absurd (omega arith)
 line-length (x ∷ xs) h = length-line x xs
 
-within : (xs : List ℕ) (i : ℕ) → i < length xs → length (commaed (take i xs)) + length (decimal (getD xs i 0)) < length (commaed xs)
+-- each number and its comma lie within the numbers so written
+pub within : (xs : List ℕ) (i : ℕ) → i < length xs → length (commaed (take i xs)) + length (decimal (getD xs i 0)) < length (commaed xs)
 unfolding commaed
 within [] i h = absurd (omega arith)
 within (x ∷ xs) zero h = omega (arith, length-append (ended x comma) (commaed xs), length-ended x comma)

@@ -86,6 +86,10 @@ placed-on l t u at k h e =
     let g = goes-on l (take at l ++ t) u (placed l at t) (placed (placed l at t) k u) k (k + length u) f refl refl in
     stands l (t ++ u) (placed (placed l at t) k u) at (k + length u) (omega arith) (rw (append-assoc (take at l) t u) at g) .1
 
+-- and so of buffers that two calls leave
+pub both-placed : (l t u w b b′ : List ℕ) (at k : ℕ) → at + length t ≤ length l → k ≡ at + length t → b ≡ placed l at t → b′ ≡ placed b k u → w ≡ t ++ u → b′ ≡ placed l at w
+both-placed l t u w b b′ at k h e first second whole = second ∙ rw (first, whole) (placed-on l t u at k h e)
+
 -- ---- the tail of a buffer that was lent and has come back
 
 pub tail-is : (l : List ℕ) (k : ℕ) → take (length l - k) (drop k l) ≡ drop k l

@@ -1,5 +1,7 @@
 -- Rows of thirteen numbers, in the heading's order, as lines; and what such rows that are put into a buffer owe.
-use Prim.Native.Nat.{ℕ, zero, suc, _+_, _*_, _≤_, _<_}
+use Prim.Native.Nat.{ℕ, zero, suc, _+_, _-_, _*_, _≤_, _<_}
+use mathlib.Core.Bool.{Bool, true}
+use mathlib.Core.Path.{_≡_}
 use mathlib.Core.List.{List, [], _∷_, _++_}
 use lib.Dec.{leb}
 use lib.ListN.{length, take, drop}
@@ -31,3 +33,12 @@ pub record LinesPut (numbers lent : List ℕ) (p : RowsPut) (left : List ℕ) : 
   pub whole : 13 * p .count ≤ length numbers
   -- as many as have room: of a row that is left the line does not fit
   pub ends : 13 * p .count + 13 ≤ length numbers → length lent < p .bytes + length (commaLine (take 13 (drop (13 * p .count) numbers)))
+
+-- ---- on the way to it
+
+-- what putting a row's line may take for granted: its room, and that the text of its last five numbers stands before it where it is told so
+pub record Puttable (row : List ℕ) (alike : Bool) (kept at : ℕ) (out : List ℕ) : Type 0 where
+  pub thirteen : length row ≡ 13
+  pub room : at + length (commaLine row) ≤ length out
+  pub before : kept ≤ at
+  pub stands : alike ≡ true → take (at - kept) (drop kept out) ≡ commaLine (drop 8 row)

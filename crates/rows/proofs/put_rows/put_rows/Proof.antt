@@ -1,4 +1,5 @@
--- `put_rows` meets its contract. The invariant: the lines of the rows so far stand at the buffer's front. Assumes nothing.
+-- `put_rows` meets its contract. The invariant: the lines of the rows so far stand at the buffer's front, and where the text of the last
+-- row's last five numbers begins is known. Assumes nothing.
 use Prim.Native.Nat.{ℕ, _+_, _*_, _-_, _≤_}
 use mathlib.Core.Path.{_≡_, refl, sym, ap, _∙_}
 use mathlib.Core.List.{List, _++_}
@@ -13,19 +14,20 @@ use Rattle.rows.specs.RowLines.{linesOf}
 use Rattle.rows.specs.Written.{Front}
 use Rattle.rows.proofs.Texts.{goes-on, front-fits}
 use Rattle.rows.proofs.RowLines.{rowAt, lines-more, row-there}
+use Rattle.rows.proofs.Kept.{upToEnds, nothing-kept, kept-before, kept-stands, kept-next}
 use Rattle.rows.proofs.put_rows.put_rows.Statement.{statement}
 use Rattle.rows.proofs.put_rows.put_rows.Tie as tie
 
 abbrev Inv-loop : tie.InvT-loop
-Inv-loop numbers out₀ rows count₀ bytes₀ out count bytes =
-    (13 * count ≤ length numbers) × (bytes ≤ length out) × (length out ≡ length out₀) × Front out₀ (linesOf count numbers) bytes out
+Inv-loop numbers out₀ rows count₀ bytes₀ kept₀ out count bytes kept =
+    (13 * count ≤ length numbers) × (bytes ≤ length out) × (length out ≡ length out₀) × Front out₀ (linesOf count numbers) bytes out × (kept ≡ length (upToEnds count numbers))
 
 abbrev μ-loop : tie.MeasureT-loop
-μ-loop numbers out₀ rows count₀ bytes₀ out count bytes = rows - count
+μ-loop numbers out₀ rows count₀ bytes₀ kept₀ out count bytes kept = rows - count
 
 loop-holds : tie.Need-loop-holds Inv-loop μ-loop
 unfolding linesOf
-loop-holds c = (omega arith, omega arith, refl, (refl, refl))
+loop-holds c = (omega arith, omega arith, refl, (refl, refl), nothing-kept _)
 
 -- in a turn of the loop
 module _ (c : tie.In-loop Inv-loop μ-loop) where
@@ -90,39 +92,54 @@ fitting c =
     let short = leb-true (length (commaLine (rowAt (count turn) (numbers turn)))) (length (out turn) - bytes turn) (sym (rw (part turn) at (c .before .fits2 .ensures)) ∙ not-false _ (c .if1 .left)) in
     omega (arith, short, turn .before .loop .inv .1)
 
-mul-put-numbers : tie.Need-mul-put-numbers Inv-loop μ-loop
-mul-put-numbers c = omega (arith, whole (c .before .before .before))
+ends-alike-requires : tie.Need-ends-alike-requires Inv-loop μ-loop
+ends-alike-requires c κs = whole (c .before .before .before)
 
-sub-put-numbers : tie.Need-sub-put-numbers Inv-loop μ-loop
-sub-put-numbers c = search needs
+mul-put-line : tie.Need-mul-put-line Inv-loop μ-loop
+mul-put-line c = omega (arith, whole (c .before .before .before .before))
 
-part-put-numbers-start : tie.Need-part-put-numbers-start Inv-loop μ-loop
-part-put-numbers-start c = search needs
+sub-put-line : tie.Need-sub-put-line Inv-loop μ-loop
+sub-put-line c = search needs
 
-part-put-numbers-end : tie.Need-part-put-numbers-end Inv-loop μ-loop
-part-put-numbers-end c = omega (arith, whole (c .before .before .before))
+part-put-line-start : tie.Need-part-put-line-start Inv-loop μ-loop
+part-put-line-start c = search needs
 
-put-numbers-requires : tie.Need-put-numbers-requires Inv-loop μ-loop
-put-numbers-requires c κs =
-    let turn = c .before .before .before .before .before in
-    rw (part turn) (omega (arith, row-there (numbers turn) (count turn) (whole turn)), fitting (c .before .before))
+part-put-line-end : tie.Need-part-put-line-end Inv-loop μ-loop
+part-put-line-end c = omega (arith, whole (c .before .before .before .before))
+
+put-line-requires : tie.Need-put-line-requires Inv-loop μ-loop
+put-line-requires c κs =
+    let alike = c .before .before in
+    let turn = alike .before .before .before .before in
+    let inv = turn .before .loop .inv in
+    rw (part turn) record {
+      thirteen = row-there (numbers turn) (count turn) (whole turn);
+      room = fitting (alike .before);
+      before = omega (arith, inv .4, inv .3 .0, kept-before (numbers turn) (count turn) (inv .0));
+      stands = λ e. let same = alike .ends-alike .ensures e in kept-stands (numbers turn) _ (out turn) (count turn) (bytes turn) _ (whole turn) (inv .3) (inv .4) (same .0) (same .1);
+    }
 
 add-count : tie.Need-add-count Inv-loop μ-loop
-add-count c = let turn = c .before .before .before .before .before .before .before .before in omega (arith, whole turn)
+add-count c = let turn = c .before .before .before .before .before .before .before .before .before in omega (arith, whole turn)
 
 loop-less : tie.Need-loop-less Inv-loop μ-loop
-loop-less c = let turn = c .before .before .before .before .before .before .before .before in omega (arith, turn .loop-test .taken)
+loop-less c = let turn = c .before .before .before .before .before .before .before .before .before in omega (arith, turn .loop-test .taken)
 
 loop-again : tie.Need-loop-again Inv-loop μ-loop
 loop-again c =
-    let turn = c .before .before .before .before .before .before .before .before in
+    let turn = c .before .before .before .before .before .before .before .before .before in
     let inv = turn .before .loop .inv in
-    let p = c .before .before .put-numbers in
+    let p = c .before .before .put-line in
     let lent = now (turn .before .before .before .before .args .out) in
     let line = commaLine (rowAt (count turn) (numbers turn)) in
     let told = rw (part turn) at (p .ensures) in
-    let f = goes-on lent (linesOf (count turn) (numbers turn)) line (out turn) _ (bytes turn) _ (inv .3) (told .0) (told .1) in
-    (omega (arith, whole turn), front-fits lent (linesOf (count turn) (numbers turn) ++ line) _ _ f, p .kept .1 .1 .0 ∙ inv .2, rw (add-one (count turn), lines-more (count turn) (numbers turn)) f)
+    let f = goes-on lent (linesOf (count turn) (numbers turn)) line (out turn) _ (bytes turn) _ (inv .3) (told .1) (told .2) in (
+      omega (arith, whole turn),
+      front-fits lent (linesOf (count turn) (numbers turn) ++ line) _ _ f,
+      search needs,
+      rw (add-one (count turn), lines-more (count turn) (numbers turn)) f,
+      rw (add-one (count turn)) (kept-next (numbers turn) (count turn) (whole turn) (bytes turn) _ (inv .3 .0) (told .0)),
+    )
 
 same-length-2 : tie.Need-same-length-2 Inv-loop μ-loop
 same-length-2 c = search needs
@@ -149,11 +166,12 @@ put-rows-spec =
     fits-requires
     same-length
     returns
-    mul-put-numbers
-    sub-put-numbers
-    part-put-numbers-start
-    part-put-numbers-end
-    put-numbers-requires
+    ends-alike-requires
+    mul-put-line
+    sub-put-line
+    part-put-line-start
+    part-put-line-end
+    put-line-requires
     add-count
     loop-less
     loop-again
