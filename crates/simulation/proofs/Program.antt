@@ -48,12 +48,12 @@ by-phase (Phase.SetLine place) s rest xs c = ap length (c .1) ∙ sym (c .0)
 by-phase Phase.Over s rest xs c = ap length (c .1) ∙ sym (c .0)
 by-phase Phase.Broken s rest xs c = absurd c
 
-comes-length : (s : Simulation) (rest : List ℕ) (xs : List Inputs) → Comes s rest xs → length xs ≡ s .course .left
+pub comes-length : (s : Simulation) (rest : List ℕ) (xs : List Inputs) → Comes s rest xs → length xs ≡ s .course .left
 comes-length s rest xs c = by-phase (s .phase) s rest xs c
 
 -- ---- what a call hands over
 
-over-by : (p : Phase) (s : Simulation) (rest : List ℕ) (xs : List Inputs) → finished p ≡ true → ComesIn p s rest xs → textOf p (s .course .station) (s .course .run) xs ≡ []
+pub over-by : (p : Phase) (s : Simulation) (rest : List ℕ) (xs : List Inputs) → finished p ≡ true → ComesIn p s rest xs → textOf p (s .course .station) (s .course .run) xs ≡ []
 unfolding textOf
 over-by (Phase.Refusal refusal) s rest xs f c = absurd (let z : _≡_ {A = ℕ} 0 1 = cc f in omega arith)
 over-by Phase.Heading s rest xs f c = absurd (let z : _≡_ {A = ℕ} 0 1 = cc f in omega arith)
