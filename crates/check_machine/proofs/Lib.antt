@@ -3,5 +3,4 @@ pub mod StopLaws
 pub mod AnswerLaws
 pub mod PutLaws
 pub mod StepLaws
-
--- pub mod Program
+pub mod Program
