@@ -1,7 +1,7 @@
 -- THE THEOREM of the program `check`, of the functions themselves: for every list of events that the loop can report, whatever the files are,
 -- in whatever chunks they come and wherever an open, a read, a rewind or a write fails.
 -- All that is known of a step is what the function's own contract ensures. Assumes of the loop what `exchange/specs/World.antt` says.
-use Prim.Native.Nat.{ℕ, _+_, _≤_, _<_}
+use Prim.Native.Nat.{ℕ, _+_, _≤_}
 use mathlib.Core.Path.{_≡_, refl, sym, ap, _∙_, subst}
 use mathlib.Core.Bool.{Bool, true, false}
 use mathlib.Core.List.{List}
@@ -17,7 +17,7 @@ use Rattle.rows.specs.AnswerLine.{acceptedLine, refusedLine}
 use Rattle.exchange.specs.declared.action.Action.{Action}
 use Rattle.exchange.specs.declared.action.Word.{Word}
 use Rattle.exchange.specs.declared.event.Event.{Event}
-use Rattle.exchange.specs.World.{World, leftIn, leftOf, Fits, after}
+use Rattle.exchange.specs.World.{World, leftIn, leftOf}
 use Rattle.exchange.specs.Events.{Events, Begins}
 use Rattle.exchange.proofs.EventLaws.{events-keep}
 use Rattle.judging.specs.declared.state.JudgeStage.{JudgeStage}

@@ -1,6 +1,6 @@
 -- The answer in the output buffer, once both files are judged. Assumes nothing.
-use Prim.Native.Nat.{ℕ, _+_, _<_}
-use mathlib.Core.Path.{_≡_, refl, sym, ap, _∙_, subst}
+use Prim.Native.Nat.{ℕ}
+use mathlib.Core.Path.{_≡_, sym, ap, _∙_, subst}
 use mathlib.Core.List.{List, [], _++_}
 use native.Mathlib.Omega.{arith}
 use lib.ListN.{length, take, drop}
@@ -10,7 +10,6 @@ use Rattle.rules.specs.declared.answers.Refusal.{Refusal}
 use Rattle.rules.specs.declared.answers.Verdict.{Verdict}
 use Rattle.rules.specs.Answers.{Answer, judged, verdictOf}
 use Rattle.rules.specs.declared.station.Station.{Station}
-use Rattle.rules.specs.StationFile.{stationFile}
 use Rattle.rows.specs.AnswerLine.{acceptedLine, refusedLine}
 use Rattle.rows.specs.Written.{TextPut}
 use Rattle.rows.proofs.Room.{put-means}
@@ -26,7 +25,7 @@ use Rattle.check_machine.specs.declared.state.Stage.{Stage}
 use Rattle.check_machine.specs.declared.state.Held.{Held}
 use Rattle.check_machine.specs.declared.state.Machine.{Machine}
 use Rattle.check_machine.specs.Stages.{stopping}
-use Rattle.check_machine.specs.Holds.{text, Told, Nearer, Unanswered, mostAfter, Accepts, Refuses, RefusesLine, AnswersSamples, Answers}
+use Rattle.check_machine.specs.Holds.{text, Nearer, Unanswered, mostAfter, Accepts, Refuses, RefusesLine, AnswersSamples, Answers}
 use Rattle.check_machine.proofs.StopLaws.{begins-none}
 use Rattle.check_machine.proofs.AnswerLaws.{station-refused, station-accepted, samples-refused, samples-accepted}
 
@@ -37,11 +36,11 @@ put-is line out answer size out′ is p =
     ap (λ (n : ℕ). take n out′) (w .size-is) ∙ ap (take (length line)) (w .left-is) ∙ take-append-seam line (drop (length line) out)
 
 -- and with what was written before it, which is nothing
-all-is : (g : Files) (w : World) (line out : List ℕ) (answer : Outcome) (size : ℕ) (out′ : List ℕ) → Unanswered g w → text g ≡ line → answer ≡ Outcome.Row size → TextPut line out answer out′ → w .written ++ take size out′ ≡ text g
+all-is : (g : Files) (w : World) (line out : List ℕ) (answer : Outcome) (size : ℕ) (out′ : List ℕ) → Unanswered w → text g ≡ line → answer ≡ Outcome.Row size → TextPut line out answer out′ → w .written ++ take size out′ ≡ text g
 all-is g w line out answer size out′ u is a p = ap (λ (l : List ℕ). l ++ take size out′) (u .unwritten) ∙ put-is line out answer size out′ a p ∙ sym is
 
 -- no room: nothing is written
-no-room : (g : Files) (w : World) (h : Held) (out′ : List ℕ) (why : Why) (r : Machine) → r ≡ stopping h why → Unanswered g w → Nearer g r w out′ (mostAfter g)
+no-room : (g : Files) (w : World) (h : Held) (out′ : List ℕ) (why : Why) (r : Machine) → r ≡ stopping h why → Unanswered w → Nearer g r w out′ (mostAfter g)
 no-room g w h out′ why r is u = subst (λ (m : Machine). Nearer g m w out′ (mostAfter g)) (sym is) (begins-none (text g) (w .written) (u .unwritten), omega arith)
 
 module _ (h : Held) (out out′ : List ℕ) (answer : Outcome) (size : ℕ) (is : answer ≡ Outcome.Row size) where

@@ -1,7 +1,7 @@
 -- What the steps from each stage keep. Assumes nothing.
-use Prim.Native.Nat.{ℕ, _+_, _≤_, _<_}
-use mathlib.Core.Path.{_≡_, refl, sym, ap, _∙_, subst}
-use mathlib.Core.List.{List, [], _∷_, _++_}
+use Prim.Native.Nat.{ℕ, _+_, _<_}
+use mathlib.Core.Path.{_≡_, sym, _∙_, subst}
+use mathlib.Core.List.{List, _∷_, _++_}
 use native.Mathlib.Omega.{arith}
 use lib.ListN.{length, take, drop}
 use Rattle.rules.specs.declared.answers.Refusal.{Refusal}
@@ -12,14 +12,14 @@ use Rattle.exchange.specs.World.{World, leftOf, againOf, withFile, after, after
 use Rattle.judging.specs.declared.state.JudgeStage.{JudgeStage}
 use Rattle.judging.specs.declared.state.Judging.{Judging}
 use Rattle.judging.specs.Stages.{judgeAsks}
-use Rattle.judging.specs.Holds.{Files, Judged, JudgeHoldsAt, JudgesFrom}
+use Rattle.judging.specs.Holds.{Judged, JudgeHoldsAt, JudgesFrom}
 use Rattle.judging.proofs.StopLaws.{less-left}
 use Rattle.judging.proofs.FrameLaws.{read-frame, judging-writes-nothing, judging-keeps-arguments}
 use Rattle.check_machine.specs.declared.state.Stage.{Stage}
 use Rattle.check_machine.specs.declared.state.Held.{Held}
 use Rattle.check_machine.specs.declared.state.Machine.{Machine}
 use Rattle.check_machine.specs.Stages.{movedBy}
-use Rattle.check_machine.specs.Holds.{text, Told, HoldsAt, stepsAt, Nearer, StepsFrom, Answers, Searches}
+use Rattle.check_machine.specs.Holds.{text, Told, HoldsAt, stepsAt, StepsFrom, Answers, Searches}
 use Rattle.check_machine.proofs.StopLaws.{told-begins, after-write}
 
 -- ---- the arguments

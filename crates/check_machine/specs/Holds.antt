@@ -1,9 +1,9 @@
 -- WHAT HOLDS between two actions, of what was read and written so far; how many steps are left; and what each step owes.
 -- `proofs/Program.antt` has the theorem over lists of events.
-use Prim.Native.Nat.{ℕ, _+_, _≤_, _<_}
+use Prim.Native.Nat.{ℕ, _+_, _<_}
 use mathlib.Core.Path.{_≡_}
-use mathlib.Core.Bool.{Bool, true, false}
-use mathlib.Core.List.{List, [], _∷_, _++_}
+use mathlib.Core.Bool.{false}
+use mathlib.Core.List.{List, [], _++_}
 use lib.ListN.{length, take}
 use Rattle.rules.specs.declared.answers.Refusal.{Refusal}
 use Rattle.rules.specs.declared.station.Station.{Station}
@@ -26,8 +26,7 @@ use Rattle.check_machine.specs.Stages.{asks}
 abbrev pub text : Files → List ℕ
 text g = answered (g .station) (g .samples)
 
--- WHAT A WORD TELLS of the bytes that were written: all of the text and which line it is, or how it begins
--- (`count` is how many arguments there are)
+-- WHAT A WORD TELLS of the bytes that were written, where there are so many arguments: all of the text and which line it is, or how it begins
 abbrev pub Told : Word → Files → ℕ → List ℕ → Type 0
 Told Word.Complete g count done = (done ≡ text g) × (text g ≡ acceptedLine) × (count ≡ 3)
 Told (Word.Refused r) g count done = (done ≡ text g) × (text g ≡ refusedLine r) × (count ≡ 3)
@@ -77,8 +76,8 @@ StepsFrom stage h e buf out r out′ =
     (g : Files) (w : World) (before : List ℕ) (some : ℕ) → HoldsAt stage g h w out → Fits (asks stage (h .judging .stage)) e w before buf
     → Nearer g r (after (asks stage (h .judging .stage)) e some w out) out′ (stepsAt stage g h w)
 
--- nothing is written yet, and the answer is still to be put into the output buffer
-pub record Unanswered (g : Files) (w : World) : Type 0 where
+-- nothing is written yet
+pub record Unanswered (w : World) : Type 0 where
   pub unwritten : w .written ≡ []
   pub called : w .count ≡ 3
 
@@ -88,23 +87,23 @@ mostAfter g = length (leftIn (g .later)) + 4
 
 -- both files are in order
 unfoldable pub Accepts : Machine → List ℕ → Type 0
-Accepts r out′ = (g : Files) (w : World) → Unanswered g w → text g ≡ acceptedLine → Nearer g r w out′ (mostAfter g)
+Accepts r out′ = (g : Files) (w : World) → Unanswered w → text g ≡ acceptedLine → Nearer g r w out′ (mostAfter g)
 
 -- one of them is refused so
 unfoldable pub Refuses : Refusal → Machine → List ℕ → Type 0
-Refuses refusal r out′ = (g : Files) (w : World) → Unanswered g w → text g ≡ refusedLine refusal → Nearer g r w out′ (mostAfter g)
+Refuses refusal r out′ = (g : Files) (w : World) → Unanswered w → text g ≡ refusedLine refusal → Nearer g r w out′ (mostAfter g)
 
 -- and it is the sample file
 unfoldable pub RefusesLine : Refusal → Machine → List ℕ → Type 0
-RefusesLine refusal r out′ = (g : Files) (w : World) → Unanswered g w → text g ≡ refusedLine refusal → againOf w 2 ≡ g .later → Nearer g r w out′ (mostAfter g)
+RefusesLine refusal r out′ = (g : Files) (w : World) → Unanswered w → text g ≡ refusedLine refusal → againOf w 2 ≡ g .later → Nearer g r w out′ (mostAfter g)
 
 -- the station is in order
 unfoldable pub AnswersSamples : Held → Machine → List ℕ → Type 0
-AnswersSamples h r out′ = (g : Files) (w : World) (st : Station) → Unanswered g w → Judged g (h .judging .held) w → stationFile (g .station) ≡ accepted st → Nearer g r w out′ (mostAfter g)
+AnswersSamples h r out′ = (g : Files) (w : World) (st : Station) → Unanswered w → Judged g (h .judging .held) w → stationFile (g .station) ≡ accepted st → Nearer g r w out′ (mostAfter g)
 
 -- both files are judged, or the station is refused
 unfoldable pub Answers : Held → Machine → List ℕ → Type 0
-Answers h r out′ = (g : Files) (w : World) → Unanswered g w → Judged g (h .judging .held) w → Nearer g r w out′ (mostAfter g)
+Answers h r out′ = (g : Files) (w : World) → Unanswered w → Judged g (h .judging .held) w → Nearer g r w out′ (mostAfter g)
 
 -- the answer is written, and a chunk of the sample file has come
 unfoldable pub Searches : Refusal → Machine → Type 0

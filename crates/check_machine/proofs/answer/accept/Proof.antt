@@ -1,7 +1,6 @@
 -- `accept` meets its contract. Assumes nothing.
 use Rattle.check_machine.proofs.PutLaws.{accept-puts, accept-stops}
 use denote.Ref.{now}
-use mathlib.Core.Path.{_≡_, refl, sym, ap, _∙_}
 use borrow.Author.Needs.{needs}
 use Rattle.check_machine.proofs.answer.accept.Statement.{statement}
 use Rattle.check_machine.proofs.answer.accept.Tie as tie

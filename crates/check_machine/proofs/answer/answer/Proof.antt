@@ -1,6 +1,5 @@
 -- `answer` meets its contract. Assumes nothing.
 use Rattle.check_machine.proofs.PutLaws.{accepts-station, refuses-station}
-use mathlib.Core.Path.{_≡_, refl, sym, ap, _∙_}
 use borrow.Author.Needs.{needs}
 use Rattle.check_machine.proofs.answer.answer.Statement.{statement}
 use Rattle.check_machine.proofs.answer.answer.Tie as tie

@@ -1,6 +1,5 @@
 -- `answer_samples` meets its contract. Assumes nothing.
 use Rattle.check_machine.proofs.PutLaws.{accepts-samples, refuses-samples}
-use mathlib.Core.Path.{_≡_, refl, sym, ap, _∙_}
 use borrow.Author.Needs.{needs}
 use Rattle.check_machine.proofs.answer.answer_samples.Statement.{statement}
 use Rattle.check_machine.proofs.answer.answer_samples.Tie as tie

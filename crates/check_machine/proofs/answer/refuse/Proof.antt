@@ -1,7 +1,6 @@
 -- `refuse` meets its contract. Assumes nothing.
 use Rattle.check_machine.proofs.PutLaws.{refuse-puts, refuse-stops}
 use denote.Ref.{now}
-use mathlib.Core.Path.{_≡_, refl, sym, ap, _∙_}
 use borrow.Author.Needs.{needs}
 use Rattle.check_machine.proofs.answer.refuse.Statement.{statement}
 use Rattle.check_machine.proofs.answer.refuse.Tie as tie

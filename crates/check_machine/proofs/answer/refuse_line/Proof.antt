@@ -1,7 +1,6 @@
 -- `refuse_line` meets its contract. Assumes nothing.
 use Rattle.check_machine.proofs.PutLaws.{without-line, refuse-line-puts, refuse-line-stops}
 use denote.Ref.{now}
-use mathlib.Core.Path.{_≡_, refl, sym, ap, _∙_}
 use borrow.Author.Needs.{needs}
 use Rattle.check_machine.proofs.answer.refuse_line.Statement.{statement}
 use Rattle.check_machine.proofs.answer.refuse_line.Tie as tie

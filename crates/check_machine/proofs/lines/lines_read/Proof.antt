@@ -5,7 +5,7 @@ use Rattle.check_machine.specs.declared.state.Stage.{Stage}
 use lib.ListN.{length-take}
 use native.Mathlib.Omega.{arith}
 use denote.Ref.{now}
-use mathlib.Core.Path.{_≡_, refl, sym, ap, _∙_}
+use mathlib.Core.Path.{refl}
 use borrow.Author.Needs.{needs}
 use Rattle.check_machine.proofs.lines.lines_read.Statement.{statement}
 use Rattle.check_machine.proofs.lines.lines_read.Tie as tie

@@ -2,7 +2,6 @@
 use Rattle.check_machine.proofs.StopLaws.{stop-steps, at-event}
 use Rattle.check_machine.proofs.StepLaws.{count-right}
 use Rattle.check_machine.specs.declared.state.Stage.{Stage}
-use mathlib.Core.Path.{_≡_, refl, sym, ap, _∙_}
 use borrow.Author.Needs.{needs}
 use Rattle.check_machine.proofs.opening.counted.Statement.{statement}
 use Rattle.check_machine.proofs.opening.counted.Tie as tie

@@ -5,7 +5,7 @@ use Rattle.check_machine.specs.Holds.{StepsFrom}
 use Rattle.check_machine.specs.declared.state.Machine.{Machine}
 use Rattle.check_machine.specs.declared.state.Stage.{Stage}
 use denote.Ref.{now}
-use mathlib.Core.Path.{_≡_, refl, sym, ap, _∙_, subst}
+use mathlib.Core.Path.{sym, subst}
 use borrow.Author.Needs.{needs}
 use Rattle.check_machine.proofs.opening.judged.Statement.{statement}
 use Rattle.check_machine.proofs.opening.judged.Tie as tie
