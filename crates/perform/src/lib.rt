@@ -150,6 +150,18 @@ fn write(size: usize, out: &[u8]) -> Event
     done(io::write_all(libc::STDOUT_FILENO, &out[..size]))
 }
 
+fn rewind(fd: i32) -> Event
+    ensures { λ r. ⌜ ShapedDone r ⌝ }
+{
+    done(libc::lseek(fd, 0, libc::SEEK_SET) == 0)
+}
+
+fn told(files: Files, event: Event) -> Performed
+    ensures { λ r. ⌜ r .event ≡ event ⌝ }
+{
+    Performed { files, event }
+}
+
 // One action; `paths` has a slot of 4096 bytes for each argument's path.
 pub fn perform(
     files: Files,
@@ -161,36 +173,20 @@ pub fn perform(
     ensures { λ r. ⌜ Shaped action (r .event) (now (buf .entry)) (now (buf .exit)) ⌝ }
 {
     match action {
-        Action::Count => Performed {
-            files,
-            event: Event::Count(os::arg_count()),
-        },
-        Action::Argument(place) => Performed {
-            files,
-            event: argument(place, buf),
-        },
+        Action::Count => told(files, Event::Count(os::arg_count())),
+        Action::Argument(place) => told(files, argument(place, buf)),
         Action::Open(place) => {
             let opened = open(place, paths);
-            Performed {
-                files: with_file(files, place, opened.fd, opened.end),
-                event: done(0 <= opened.fd),
-            }
+            told(
+                with_file(files, place, opened.fd, opened.end),
+                done(0 <= opened.fd),
+            )
         }
-        Action::Read(place, from, to) => Performed {
-            files,
-            event: read(descriptor(files, place), from, to, buf),
-        },
-        Action::Rewind(place) => Performed {
-            files,
-            event: done(libc::lseek(descriptor(files, place), 0, libc::SEEK_SET) == 0),
-        },
-        Action::Write(size) => Performed {
-            files,
-            event: write(size, out),
-        },
-        Action::Stop(_) => Performed {
-            files,
-            event: Event::Failed,
-        },
+        Action::Read(place, from, to) => {
+            told(files, read(descriptor(files, place), from, to, buf))
+        }
+        Action::Rewind(place) => told(files, rewind(descriptor(files, place))),
+        Action::Write(size) => told(files, write(size, out)),
+        Action::Stop(_) => told(files, Event::Failed),
     }
 }
