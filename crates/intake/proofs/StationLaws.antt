@@ -1,17 +1,20 @@
 -- The station file as it arrives: the bytes held and those that follow, and a file that is too long. Assumes nothing.
 use Prim.Native.Nat.{ℕ, _+_, _≤_, _<_, min}
 use mathlib.Core.Path.{_≡_, refl, sym, ap, _∙_}
-use mathlib.Core.List.{List, _++_, append-assoc}
+use mathlib.Core.Bool.{true}
+use mathlib.Core.List.{List, [], _++_, append-assoc}
 use native.Mathlib.Numerals.{add-one}
 use native.Mathlib.Omega.{arith}
 use native.Mathlib.Decide.{decLt}
+use borrow.Author.Tests.{leb-true}
 use lib.ListN.{length, take, getD, set, length-append, length-take}
 use lib.Seq.{take-all, take-length, paste, paste-suc, take-paste}
 use Rattle.rules.specs.declared.station.Station.{Station}
 use Rattle.rules.specs.declared.answers.Verdict.{Verdict}
 use Rattle.rules.specs.Answers.{Answer, accepted, refused, judged, verdictOf}
 use Rattle.rules.specs.StationFile.{contentsRight, stationFile}
-use Rattle.intake.specs.Stations.{isRefused}
+use Rattle.intake.specs.declared.station_bytes.StationBytes.{StationBytes}
+use Rattle.intake.specs.Stations.{stationWith, tooLong, isRefused}
 use Rattle.intake.proofs.RangeLaws.{over-range}
 
 -- "a file has 165 to 676 bytes": one with more is refused with 1, whatever its bytes are
@@ -53,6 +56,17 @@ module _ (bytes : List ℕ) (len held : ℕ) (size : length bytes ≡ 677) (leas
       let n : length (take len bytes ++ (chunk ++ rest)) ≡ held + (length chunk + length rest) = simp (length-append, length-take) (omega arith) in
       let m : length (take 677 bytes ++ rest) ≡ 677 + length rest = simp (length-append, length-take) (omega arith) in
       too-long _ (omega (arith, n)) ∙ sym (too-long _ (omega (arith, m)))
+
+-- a file that is held up to one byte more than it may have is refused for its length, whatever follows
+held-too-long : (bytes : List ℕ) (len : ℕ) (rest : List ℕ) → length bytes ≡ 677 → 677 ≤ len → stationFile (take len bytes ++ []) ≡ stationFile (take len bytes ++ rest)
+held-too-long bytes len rest size h =
+    let n : length (take len bytes ++ []) ≡ 677 = simp (length-append, length-take) (omega arith) in
+    let m : length (take len bytes ++ rest) ≡ 677 + length rest = simp (length-append, length-take) (omega arith) in
+    too-long _ (omega (arith, n)) ∙ sym (too-long _ (omega (arith, m)))
+
+pub too-long-decides : (file : StationBytes) → length (file .bytes) ≡ 677 → tooLong file ≡ true → (rest : List ℕ) → stationWith file [] ≡ stationWith file rest
+unfolding stationWith tooLong
+too-long-decides file size e rest = held-too-long (file .bytes) (file .len) rest size (leb-true 677 (file .len) e)
 
 -- ---- a verdict that is the answer's is refused where the answer is
 

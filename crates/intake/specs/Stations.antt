@@ -2,6 +2,7 @@
 use Prim.Native.Nat.{ℕ}
 use mathlib.Core.Bool.{Bool, true, false}
 use mathlib.Core.List.{List, _++_}
+use lib.Dec.{leb}
 use lib.ListN.{take}
 use Rattle.rules.specs.declared.station.Station.{Station}
 use Rattle.rules.specs.Answers.{Answer, accepted, refused}
@@ -11,6 +12,10 @@ use Rattle.intake.specs.declared.station_bytes.StationBytes.{StationByte
 -- what the file comes to, where `rest` is still to arrive
 unfoldable pub stationWith : StationBytes → List ℕ → Answer Station
 stationWith f rest = stationFile (take (f .len) (f .bytes) ++ rest)
+
+-- "a file has 165 to 676 bytes": one more byte is held
+unfoldable pub tooLong : StationBytes → Bool
+tooLong f = leb 677 (f .len)
 
 abbrev pub isRefused : {A : Type 0} → Answer A → Bool
 isRefused (accepted a) = false

@@ -1,11 +1,12 @@
 // The station file as it arrives in chunks.
 ghost use mathlib.Core.Path.{_≡_};
+ghost use mathlib.Core.Bool.{true};
 ghost use mathlib.Core.List.{List, [], _++_};
 ghost use Prim.Native.Nat.{ℕ};
 ghost use Rattle.rules.specs.StationFile.{stationFile};
 ghost use Rattle.rules.specs.Answers.{judged, valueOr, verdictOf};
 ghost use Rattle.rules.specs.StationRecord.{noStation};
-ghost use Rattle.intake.specs.Stations.{stationWith, isRefused};
+ghost use Rattle.intake.specs.Stations.{stationWith, tooLong, isRefused};
 use rules::answers::Verdict;
 use station::reader::Reading;
 use station::reader::read_station;
@@ -73,4 +74,11 @@ pub fn is_station_refused(file: StationBytes) -> bool
         Verdict::Accepted => false,
         Verdict::Refused(_) => true,
     }
+}
+
+// Whether the file has more bytes than a station file may have, so that no further byte changes the answer.
+pub fn is_too_long(file: StationBytes) -> bool
+    ensures { λ r. ⌜ (r ≡ tooLong file) × (r ≡ true → (rest : List ℕ) → stationWith file [] ≡ stationWith file rest) ⌝ }
+{
+    MOST_HELD <= file.len
 }

@@ -1,5 +1,7 @@
-// The other lines that the run program prints, each at the front of a lent buffer: the two headings, a set's line, and a refusal.
+// The other lines that a program prints, each at the front of a lent buffer: the two headings, a set's line, a refusal, and that files
+// are accepted.
 ghost use Rattle.rules.specs.Row.{rowHeading, setHeading, refusalLine};
+ghost use Rattle.rows.specs.AnswerLine.{refusedLine, acceptedLine};
 ghost use Rattle.rows.specs.SetLine.{setLine};
 ghost use Rattle.rows.specs.Written.{TextPut};
 use crate::text::put_numbers;
@@ -8,6 +10,7 @@ use rules::answers::Outcome;
 use rules::answers::Refusal;
 use rules::limits::LEAST_ROW_BUFFER;
 use rules::run::SetState;
+use words::refusals::number_and_place;
 
 // The heading of the rows.
 pub fn put_row_heading(buffer: &mut [u8]) -> Outcome
@@ -60,4 +63,22 @@ pub fn put_refusal(number: u64, place: u64, buffer: &mut [u8]) -> Outcome
     let at = put_text(b"refused,", buffer);
     let columns = [number, place];
     Outcome::Row(put_numbers(&columns, at, buffer))
+}
+
+// The same of a refusal as the functions answer it.
+pub fn put_refused(refusal: Refusal, buffer: &mut [u8]) -> Outcome
+    ensures { λ r. ⌜ TextPut (refusedLine refusal) (now (buffer .entry)) r (now (buffer .exit)) ⌝ }
+{
+    let answer = number_and_place(refusal);
+    put_refusal(answer.0, answer.1, buffer)
+}
+
+// All that a program prints whose whole answer is that its files are in order.
+pub fn put_accepted(buffer: &mut [u8]) -> Outcome
+    ensures { λ r. ⌜ TextPut acceptedLine (now (buffer .entry)) r (now (buffer .exit)) ⌝ }
+{
+    if buffer.len() < LEAST_ROW_BUFFER {
+        return Outcome::Refused(Refusal::RowBuffer);
+    }
+    Outcome::Row(put_text(b"accepted\n", buffer))
 }

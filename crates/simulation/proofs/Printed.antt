@@ -14,6 +14,7 @@ use Rattle.rules.specs.RunRecord.{startRecord}
 use Rattle.rules.specs.Row.{rowHeading, rowText, refusalLine}
 use Rattle.rules.specs.Second.{step, recordAfter}
 use Rattle.rules.specs.Run.{inputsOf, rowsFrom, secondsAsked, runOf, shown, printed}
+use Rattle.rows.specs.AnswerLine.{refusedLine}
 use Rattle.rows.specs.RowLines as lines
 use Rattle.samples.specs.declared.check.Span.{Span}
 use Rattle.samples.specs.ToCome.{placed}
@@ -25,7 +26,7 @@ use Rattle.course.proofs.Started.{started-run, started-coming}
 use Rattle.simulation.specs.declared.state.Phase.{Phase}
 use Rattle.simulation.specs.declared.state.Simulation.{Simulation}
 use Rattle.simulation.specs.Rows.{rowTexts, setTexts, rowsWith}
-use Rattle.simulation.specs.Text.{refusedLine, textOf, toPrint}
+use Rattle.simulation.specs.Text.{textOf, toPrint}
 use Rattle.simulation.specs.Turns.{ComesIn, Comes}
 use Rattle.simulation.specs.Begin.{Refuses, Starting, BegunAs}
 

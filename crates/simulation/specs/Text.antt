@@ -3,23 +3,18 @@ use Prim.Native.Nat.{ℕ, suc, _+_, min}
 use mathlib.Core.List.{List, [], _++_}
 use lib.ListN.{take, drop}
 use lib.Dec.{ltb}
-use Rattle.rules.specs.declared.answers.Refusal.{Refusal}
 use Rattle.rules.specs.declared.station.Station.{Station}
 use Rattle.rules.specs.declared.run.Inputs.{Inputs}
 use Rattle.rules.specs.declared.run.Run.{Run}
 use Rattle.rules.specs.declared.run.SetState.{SetState}
 use Rattle.rules.specs.Numbers.{if_then_else_}
-use Rattle.rules.specs.Answers.{numberAndPlace}
 use Rattle.rules.specs.Modes.{stateAt}
-use Rattle.rules.specs.Row.{rowHeading, setHeading, setLines, refusalLine}
+use Rattle.rules.specs.Row.{rowHeading, setHeading, setLines}
+use Rattle.rows.specs.AnswerLine.{refusedLine}
 use Rattle.rows.specs.SetLine.{setLine}
 use Rattle.simulation.specs.declared.state.Phase.{Phase}
 use Rattle.simulation.specs.declared.state.Simulation.{Simulation}
 use Rattle.simulation.specs.Rows.{rowsWith, setTexts}
-
--- "a refusal prints only `refused,number,place`"
-unfoldable pub refusedLine : Refusal → List ℕ
-refusedLine r = refusalLine (numberAndPlace r .0) (numberAndPlace r .1)
 
 -- what a run in this phase has yet to hand over, where the seconds that are left are handed these inputs; a run that broke off hands
 -- over no more of it

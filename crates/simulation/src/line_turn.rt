@@ -11,7 +11,7 @@ use crate::state::Simulation;
 use crate::state::Turn;
 use crate::state::Wants;
 use course::state::set_states;
-use rows::run_lines::put_refusal;
+use rows::run_lines::put_refused;
 use rows::run_lines::put_row_heading;
 use rows::run_lines::put_set_heading;
 use rows::run_lines::put_set_line;
@@ -19,7 +19,6 @@ use rules::answers::Outcome;
 use rules::answers::Refusal;
 use rules::limits::LEAST_ROW_BUFFER;
 use rules::run::SetState;
-use words::refusals::number_and_place;
 
 // No line, where one would have room.
 fn put_nothing(tail: &mut [u8]) -> Outcome
@@ -30,15 +29,6 @@ fn put_nothing(tail: &mut [u8]) -> Outcome
     }
     Outcome::Row(0)
 }
-
-fn put_refused(refusal: Refusal, tail: &mut [u8]) -> Outcome
-    ensures { λ r. ⌜ TextPut (refusedLine refusal) (now (tail .entry)) r (now (tail .exit)) ⌝ }
-{
-    let answer = number_and_place(refusal);
-    put_refusal(answer.0, answer.1, tail)
-}
-
-ghost use Rattle.simulation.specs.Text.{refusedLine};
 
 fn put_set(states: [SetState; 8], place: usize, tail: &mut [u8]) -> Outcome
     ensures { λ r. ⌜ TextPut (setLineAt states place) (now (tail .entry)) r (now (tail .exit)) ⌝ }

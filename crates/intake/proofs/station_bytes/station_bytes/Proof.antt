@@ -6,7 +6,7 @@ use Rattle.intake.proofs.station_bytes.station_bytes.Tie as tie
 use Rattle.intake.proofs.station_bytes.station_bytes.Reads as reads
 use Rattle.intake.proofs.station_bytes.station_bytes.Lts as lts
 
--- src/station_bytes.rt:30:1
+-- src/station_bytes.rt:25:1
 returns : tie.Need-returns
 unfolding stationWith
 returns c = λ rest. refl

@@ -1,0 +1,44 @@
+-- A reading may stop anywhere; and what a read leaves is less. Assumes nothing.
+use Prim.Native.Nat.{ℕ, suc, _+_, _≤_, _<_, min}
+use mathlib.Core.Path.{_≡_, refl, sym, ap, _∙_, subst}
+use mathlib.Core.List.{List, [], _∷_, _++_}
+use native.Mathlib.Omega.{arith}
+use lib.ListN.{length, take, drop, length-take, length-append}
+use Rattle.exchange.specs.declared.action.Why.{Why}
+use Rattle.exchange.specs.declared.event.Event.{Event}
+use Rattle.exchange.specs.World.{World, Fits, after}
+use Rattle.judging.specs.declared.state.JudgeStage.{JudgeStage}
+use Rattle.judging.specs.declared.state.Held.{Held}
+use Rattle.judging.specs.declared.state.Judging.{Judging}
+use Rattle.judging.specs.Stages.{judgeAsks, stopping}
+use Rattle.judging.specs.Holds.{Files, judgeStepsAt, Nearer, JudgesFrom}
+
+-- what is left after some bytes were read is less
+pub less-left : (n : ℕ) (buf left : List ℕ) → 0 < n → n ≤ length buf → left ≡ take n buf ++ drop n left → length (drop n left) < length left
+less-left n buf left some fits is =
+    let size : length left ≡ length (take n buf) + length (drop n left) = ap length is ∙ length-append (take n buf) (drop n left) in
+    let taken : length (take n buf) ≡ min n (length buf) = length-take n buf in
+    omega (arith, size, taken, some, fits)
+
+-- a step is left at each stage that waits for an event
+some-left : (stage : JudgeStage) (g : Files) (e : Event) (w : World) (before buf : List ℕ) → Fits (judgeAsks stage) e w before buf → 0 < judgeStepsAt stage g w
+some-left JudgeStage.OpenStation g e w before buf f = omega arith
+some-left JudgeStage.ReadStation g e w before buf f = omega arith
+some-left JudgeStage.OpenSamples g e w before buf f = omega arith
+some-left JudgeStage.ToStart g e w before buf f = omega arith
+some-left JudgeStage.ReadSamples g e w before buf f = omega arith
+some-left JudgeStage.Judged g e w before buf f = absurd f
+some-left (JudgeStage.Stopped why) g e w before buf f = absurd f
+
+pub stop-steps : (stage : JudgeStage) (h : Held) (e : Event) (buf : List ℕ) (why : Why) (r : Judging) → r ≡ stopping h why → JudgesFrom stage h e buf r
+unfolding JudgesFrom
+stop-steps stage h e buf why r is g w before out some o f =
+    subst (λ (p : Judging). Nearer g p (after (judgeAsks stage) e some w out) (judgeStepsAt stage g w)) (sym is) (tt, some-left stage g e w before buf f)
+
+-- ---- from an event or a stage that is known
+
+pub at-event : (stage : JudgeStage) (h : Held) (e e′ : Event) (buf : List ℕ) (r : Judging) → e ≡ e′ → JudgesFrom stage h e′ buf r → JudgesFrom stage h e buf r
+at-event stage h e e′ buf r is k = subst (λ (x : Event). JudgesFrom stage h x buf r) (sym is) k
+
+pub at-stage : (stage stage′ : JudgeStage) (h : Held) (e : Event) (buf : List ℕ) (r : Judging) → stage ≡ stage′ → JudgesFrom stage′ h e buf r → JudgesFrom stage h e buf r
+at-stage stage stage′ h e buf r is k = subst (λ (x : JudgeStage). JudgesFrom x h e buf r) (sym is) k
