@@ -13,7 +13,7 @@ use Rattle.simulation.specs.declared.state.Simulation.{Simulation}
 use Rattle.simulation.specs.declared.state.Turn.{Turn}
 use Rattle.simulation.specs.declared.state.Wants.{Wants}
 use Rattle.simulation.specs.Text.{toPrint}
-use Rattle.simulation.specs.Turns.{Comes, ComesOn, weight, Ended, Moved}
+use Rattle.simulation.specs.Turns.{Comes, ComesOn, weight, isBeforeSets, Ended, Moved}
 use Rattle.simulation.specs.Calls.{goesOn, Stopped, Called}
 
 -- whether a further turn is to come, as a number
@@ -41,6 +41,7 @@ module _ (s : Simulation) (chunk : List ℕ) (at : ℕ) (ended : Bool) (out₀ :
     pub kept : drop (t .written) out ≡ drop (t .written) out₀
     pub less : weight (t .simulation) ≤ weight s
     pub small : length out₀ < 256 → t .written ≡ 0
+    pub early : ended ≡ false → isBeforeSets (s .phase) ≡ true → isBeforeSets (t .simulation .phase) ≡ true
     pub some : 1 ≤ t .written → goesOn (t .wants) ≡ true → weight (t .simulation) < weight s
     pub stopped : StoppedYet (t .wants) t
 
@@ -69,6 +70,7 @@ module _ (s : Simulation) (chunk : List ℕ) (at : ℕ) (ended : Bool) (out₀ :
         kept = refl;
         less = omega arith;
         small = λ h. refl;
+        early = λ n b. b;
         some = λ h g. absurd (omega (arith, h));
         stopped = tt;
       }
@@ -124,6 +126,7 @@ module _ (s : Simulation) (chunk : List ℕ) (at : ℕ) (ended : Bool) (out₀ :
           kept = kept-on;
           less = omega (arith, m .less, g .less);
           small = λ h. m .small (omega (arith, h, g .size)) ∙ g .small h;
+          early = λ n b. m .early n (g .early n b);
           some = λ h f. some-on (r .wants) (m .wants) f;
           stopped = stops (r .wants) (m .wants);
         }
@@ -160,5 +163,6 @@ module _ (s : Simulation) (chunk : List ℕ) (at : ℕ) (ended : Bool) (out₀ :
         kept = g .kept;
         less = g .less;
         small = g .small;
+        early = g .early;
         wants = ends-stopped (t .wants) t f (g .stopped);
       }

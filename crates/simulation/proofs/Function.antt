@@ -3,13 +3,18 @@
 -- All that is known of a call is what the function's own contract ensures. Assumes nothing but what the hypotheses say: both passes
 -- over the sample file read the same bytes, fewer than 2^64.
 use Prim.Native.Nat.{ℕ, _≤_}
-use mathlib.Core.Path.{_≡_, sym, ap, _∙_, subst}
+use mathlib.Core.Path.{_≡_, refl, sym, ap, _∙_, subst}
 use mathlib.Core.Bool.{Bool}
-use mathlib.Core.List.{List, [], _++_}
+use mathlib.Core.List.{List, [], _∷_, _++_}
+use native.Mathlib.Omega.{arith}
 use lib.ListN.{length}
+use mir.Val.{Val}
 use borrow.Fn.Kinds as kinds
 use contract.Lifetimes.{Lfts}
+use denote.Laws.{Is}
 use denote.Ref.{now}
+use denote.Struct.Declared.{row}
+use denote.Struct.Laws.{val, tells}
 use denote.Triple.Clauses as clauses
 use Rattle.rules.specs.declared.answers.Refusal.{Refusal}
 use Rattle.rules.specs.declared.station.Station.{Station}
@@ -37,9 +42,11 @@ use Rattle.simulation.specs.Text.{textOf}
 use Rattle.simulation.specs.Turns.{ComesIn}
 use Rattle.simulation.specs.Calls.{Called}
 use Rattle.simulation.specs.Begin.{BegunAs}
-use Rattle.simulation.specs.Program.{Calls, Prints, mostCalls, Answered, Whole}
+use Rattle.simulation.specs.Program.{Calls, Prints, mostCalls, AreBytes, SliceHeld, SlicesHeld, HeldByTypes, Answered, Whole}
 use Rattle.simulation.proofs.Printed.{Starts, CheckedFor, begins-right}
 use Rattle.simulation.proofs.Program.{calls-print, OfSome, some-inputs, calls-end}
+use Rattle.simulation.proofs.state.Simulation.{the-type}
+use Rattle.simulation.proofs.state.Simulation.Laws.{the-laws}
 use Rattle.simulation.proofs.begin.begin.Reads as begin-reads
 use Rattle.simulation.proofs.begin.begin.Kinds as begin-kinds
 use Rattle.simulation.proofs.advance.advance.Reads as advance-reads
@@ -141,7 +148,35 @@ module _ (chunks : List (List ℕ)) (asked : List ℕ) (f₀ f : StationBytes) (
       let o = other-bytes passTwo 0 n out last calls in
       sym (ap (λ (p : Phase). textOf p (s .course .station) (s .course .run) (o .inputs)) e) ∙ o .begins
 
--- ---- and they come to an end: where each call of `advance` is answered, whatever it is handed
+-- ---- and they come to an end: where each call of `advance` that is handed what its types can hold is answered
 
-pub run-ends : (lent : List ℕ) → 256 ≤ length lent → ((s : Simulation) (chunk : List ℕ) (at : ℕ) (ended : Bool) → Answered CalledBy s chunk at ended lent) → (s : Simulation) (chunks : List (List ℕ)) → Whole CalledBy s 0 chunks
-run-ends lent roomy answers s chunks = calls-end CalledBy (λ s chunk at ended lent r left one. called-owes one) lent roomy answers s chunks
+-- a run that machine values of its type mean
+abbrev pub RunHeld : Simulation → Type 0
+RunHeld s = Is (row the-type) s (val the-type the-laws s ∷ [])
+
+-- what the types of `advance` can hold is what the logic knows of its arguments, with slices of bytes
+pub held-of-good : (κs : Lfts 2) (args : kinds.Dens κs advance-kinds.ps) → kinds.GoodsP κs advance-kinds.ps args → AreBytes (now (args .1 .0)) → AreBytes (now (args .1 .1 .1 .1 .0))
+    → HeldByTypes RunHeld (args .0) (now (args .1 .0)) (args .1 .1 .0) (now (args .1 .1 .1 .1 .0))
+held-of-good κs args good chunk lent =
+    record {
+      run = good .0;
+      chunk-held = record { few = omega (arith, good .1 .0 .1); are = chunk };
+      place = good .1 .1 .0 .1;
+      lent-held = record { few = omega (arith, good .1 .1 .1 .1 .0 .1); are = lent };
+    }
+
+pub good-of-held : (κs : Lfts 2) (args : kinds.Dens κs advance-kinds.ps) → HeldByTypes RunHeld (args .0) (now (args .1 .0)) (args .1 .1 .0) (now (args .1 .1 .1 .1 .0)) → kinds.GoodsP κs advance-kinds.ps args
+good-of-held κs args h =
+    (h .run, ((omega (arith, h .chunk-held .few), omega (arith, h .chunk-held .few)), ((refl, h .place), (refl, ((omega (arith, h .lent-held .few), omega (arith, h .lent-held .few)), tt)))))
+
+-- a caller is told of what is handed back that machine values of its type mean it: so of a run that `begin` made, and of a turn's
+pub run-of-begin : (κs : Lfts 1) (s : Simulation) → begin-kinds.r .is .Ok κs s → RunHeld s
+run-of-begin κs s h = h
+
+pub run-of-turn : (κs : Lfts 2) (r : Turn) → advance-kinds.r .is .Ok κs r → RunHeld (r .simulation)
+run-of-turn κs r h = subst (λ (vs : List Val). Is (row the-type) (r .simulation) vs) (tells the-type the-laws (r .simulation) (h .0 .0) (h .1 .1 .0)) (h .1 .1 .0)
+
+pub run-ends : ((s : Simulation) (chunk : List ℕ) (at : ℕ) (ended : Bool) (lent : List ℕ) → HeldByTypes RunHeld s chunk at lent → Answered CalledBy RunHeld s chunk at ended lent)
+    → (s : Simulation) (chunks : List (List ℕ)) (lent : List ℕ) → RunHeld s → SlicesHeld chunks → SliceHeld lent → 256 ≤ length lent → Whole CalledBy s 0 chunks
+run-ends answers s chunks lent run all held roomy =
+    calls-end CalledBy (λ s chunk at ended lent r left one. called-owes one) RunHeld answers s chunks lent run all held roomy

@@ -15,6 +15,7 @@ use Rattle.rules.specs.declared.run.Mode.the-variants.{Off}
 use Rattle.rules.specs.Numbers.{if_then_else_}
 use Rattle.rules.specs.Modes.{fresh, stateAt}
 use Rattle.rules.specs.Row.{setLines}
+use Rattle.rules.proofs.Tests.{never}
 use Rattle.rows.specs.SetLine.{setLine}
 use Rattle.rows.proofs.SetLine.{set-lines-step}
 use Rattle.simulation.specs.declared.state.Phase.{Phase}
@@ -23,8 +24,12 @@ use Rattle.simulation.specs.declared.state.Turn.{Turn}
 use Rattle.simulation.specs.declared.state.Wants.{Wants}
 use Rattle.simulation.specs.Rows.{setTexts}
 use Rattle.simulation.specs.Text.{textOf, toPrint, lineOf, phaseAfter, setLineAt, withPhase}
-use Rattle.simulation.specs.Turns.{ComesIn, Comes, rank, weight, finished, Moved, LineBy, LineMoved, withLine, waitingFor, putAt}
+use Rattle.simulation.specs.Turns.{ComesIn, Comes, rank, weight, finished, isBeforeSets, Moved, LineBy, LineMoved, withLine, waitingFor, putAt}
 use Rattle.simulation.proofs.TurnLaws.{put-front, put-rest, put-size, quiet}
+
+-- in a phase after the sets' heading nothing is asked
+late : {A : Type 0} {p q : Phase} → p ≡ q → isBeforeSets q ≡ false → isBeforeSets p ≡ true → A
+late e f b = never (sym f ∙ sym (ap isBeforeSets e) ∙ b)
 
 -- ---- a line, and then the phase after it
 
@@ -39,10 +44,10 @@ module _ (t : Turn) (chunk : List ℕ) (ended : Bool) (out : List ℕ) (at-in : 
   line = lineOf (s .phase) (s .course .run .sets)
 
   pub room-turn : length out - t .written < 256 → Moved t chunk ended out (waitingFor t Wants.Room) out
-  room-turn h = quiet t chunk ended out s (t .next) Wants.Room refl (λ xs l. refl) (λ rest k zs l. l) at-in (omega arith) out-in (omega arith) (λ roomy. omega (arith, h, roomy), refl)
+  room-turn h = quiet t chunk ended out s (t .next) Wants.Room refl (λ xs l. refl) (λ rest k zs l. l) at-in (omega arith) out-in (omega arith) (λ n b. b) (λ roomy. omega (arith, h, roomy), refl)
 
   module _ (text-is : (xs : List Inputs) → toPrint s xs ≡ line ++ toPrint next xs) (comes : (rest : List ℕ) (xs : List Inputs) → Comes s rest xs → Comes next rest xs)
-      (lighter : rank (phaseAfter (s .phase)) < rank (s .phase)) where
+      (lighter : rank (phaseAfter (s .phase)) < rank (s .phase)) (early : ended ≡ false → isBeforeSets (s .phase) ≡ true → isBeforeSets (phaseAfter (s .phase)) ≡ true) where
     with-line : 256 ≤ length out - t .written → t .written + length line ≤ length out → Moved t chunk ended out (withLine t) (putAt out (t .written) line)
     with-line roomy fits =
         let w : weight next < weight s = omega (arith, lighter) in
@@ -59,6 +64,7 @@ module _ (t : Turn) (chunk : List ℕ) (ended : Bool) (out : List ℕ) (at-in : 
           kept = put-rest out line (t .written) fits;
           less = omega (arith, w);
           small = λ h. absurd (omega (arith, h, roomy));
+          early = early;
           wants = w;
         }
 
@@ -78,6 +84,7 @@ module _ (t : Turn) (chunk : List ℕ) (ended : Bool) (out : List ℕ) (at-in : 
       (λ xs. rw e (sym (append-nil _)))
       (λ rest xs c. subst (λ (p : Phase). ComesIn (phaseAfter p) (withPhase s (phaseAfter p)) rest xs) (sym e) (subst (λ (p : Phase). ComesIn p s rest xs) e c))
       (let a = ap rank e in let b = ap (λ (p : Phase). rank (phaseAfter p)) e in omega (arith, a, b))
+      (λ n b. late e refl b)
 
   pub heading-turn : s .phase ≡ Phase.Heading → (r : Turn) (out′ : List ℕ) → LineMoved t out r out′ → Moved t chunk ended out r out′
   unfolding textOf lineOf
@@ -86,23 +93,25 @@ module _ (t : Turn) (chunk : List ℕ) (ended : Bool) (out : List ℕ) (at-in : 
       (λ xs. rw e)
       (λ rest xs c. subst (λ (p : Phase). ComesIn (phaseAfter p) (withPhase s (phaseAfter p)) rest xs) (sym e) (subst (λ (p : Phase). ComesIn p s rest xs) e c))
       (let a = ap rank e in let b = ap (λ (p : Phase). rank (phaseAfter p)) e in omega (arith, a, b))
+      (λ n b. ap (λ (p : Phase). isBeforeSets (phaseAfter p)) e)
 
-  pub set-heading-turn : s .phase ≡ Phase.SetHeading → (r : Turn) (out′ : List ℕ) → LineMoved t out r out′ → Moved t chunk ended out r out′
+  pub set-heading-turn : s .phase ≡ Phase.SetHeading → ended ≡ true → (r : Turn) (out′ : List ℕ) → LineMoved t out r out′ → Moved t chunk ended out r out′
   unfolding textOf lineOf setTexts
-  set-heading-turn e =
+  set-heading-turn e over =
       line-turned
       (λ xs. rw e)
       (λ rest xs c. subst (λ (p : Phase). ComesIn (phaseAfter p) (withPhase s (phaseAfter p)) rest xs) (sym e) (subst (λ (p : Phase). ComesIn p s rest xs) e c))
       (let a = ap rank e in let b = ap (λ (p : Phase). rank (phaseAfter p)) e in omega (arith, a, b))
+      (λ n b. never (sym n ∙ over))
 
   pub passing-turn : s .phase ≡ Phase.SetHeading → ended ≡ false → Moved t chunk ended out (record { simulation = s; next = length chunk; written = t .written; wants = Wants.Input }) out
   passing-turn e n =
       quiet t chunk ended out s (length chunk) Wants.Input refl (λ xs l. refl)
       (λ rest h xs c. subst (λ (p : Phase). ComesIn p s (drop (length chunk) chunk ++ rest) xs) (sym e) (subst (λ (p : Phase). ComesIn p s (drop (t .next) chunk ++ rest) xs) e c))
-      (omega arith) at-in out-in (omega arith) (refl, n)
+      (omega arith) at-in out-in (omega arith) (λ n b. b) (refl, n)
 
   pub finished-turn : finished (s .phase) ≡ true → Moved t chunk ended out (waitingFor t Wants.Nothing) out
-  finished-turn e = quiet t chunk ended out s (t .next) Wants.Nothing refl (λ xs l. refl) (λ rest h xs c. c) at-in (omega arith) out-in (omega arith) e
+  finished-turn e = quiet t chunk ended out s (t .next) Wants.Nothing refl (λ xs l. refl) (λ rest h xs c. c) at-in (omega arith) out-in (omega arith) (λ n b. b) e
 
   -- ---- the sets
 
@@ -121,6 +130,7 @@ module _ (t : Turn) (chunk : List ℕ) (ended : Bool) (out : List ℕ) (at-in : 
         (λ xs. rw e one-more)
         (λ rest xs c. subst (λ (p : Phase). ComesIn (phaseAfter p) (withPhase s (phaseAfter p)) rest xs) (sym e) (subst (λ (p : Phase). ComesIn p s rest xs) e c))
         (let a = ap rank e in let b = ap (λ (p : Phase). rank (phaseAfter p)) e in omega (arith, a, b))
+        (λ n b. late e refl b)
       where
         sets : List SetState
         sets = s .course .run .sets
@@ -140,7 +150,7 @@ module _ (t : Turn) (chunk : List ℕ) (ended : Bool) (out : List ℕ) (at-in : 
         quiet t chunk ended out (withPhase s Phase.Over) (t .next) Wants.Further refl
         (λ xs l. rw (e, drop-of-length-le (take (s .course .station .setcount) (s .course .run .sets)) past))
         (λ rest h xs c. subst (λ (p : Phase). ComesIn p s (drop (t .next) chunk ++ rest) xs) e c)
-        at-in (omega arith) out-in (omega (arith, lighter)) lighter
+        at-in (omega arith) out-in (omega (arith, lighter)) (λ n b. late e refl b) lighter
 
     pub few-sets : min (s .course .station .setcount) 8 ≤ place → length (take (s .course .station .setcount) (s .course .run .sets)) ≤ place
     few-sets past = omega (arith, length-take (s .course .station .setcount) (s .course .run .sets), sets-length)

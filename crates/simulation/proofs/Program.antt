@@ -15,7 +15,7 @@ use Rattle.simulation.specs.declared.state.Wants.{Wants}
 use Rattle.simulation.specs.Text.{textOf, toPrint}
 use Rattle.simulation.specs.Turns.{ComesIn, Comes, ComesOn, weight, finished}
 use Rattle.simulation.specs.Calls.{Stopped, Called}
-use Rattle.simulation.specs.Program.{first, others, isEnd, leftAt, Calls, Prints, mostCalls, Answered, Whole}
+use Rattle.simulation.specs.Program.{first, others, isEnd, leftAt, Calls, Prints, mostCalls, SliceHeld, SlicesHeld, HeldByTypes, Answered, Whole}
 use Rattle.simulation.proofs.Printed.{Starts}
 
 opposite : {A : Type 0} {b : Bool} → b ≡ true → b ≡ false → A
@@ -48,12 +48,12 @@ by-phase (Phase.SetLine place) s rest xs c = ap length (c .1) ∙ sym (c .0)
 by-phase Phase.Over s rest xs c = ap length (c .1) ∙ sym (c .0)
 by-phase Phase.Broken s rest xs c = absurd c
 
-comes-length : (s : Simulation) (rest : List ℕ) (xs : List Inputs) → Comes s rest xs → length xs ≡ s .course .left
+pub comes-length : (s : Simulation) (rest : List ℕ) (xs : List Inputs) → Comes s rest xs → length xs ≡ s .course .left
 comes-length s rest xs c = by-phase (s .phase) s rest xs c
 
 -- ---- what a call hands over
 
-over-by : (p : Phase) (s : Simulation) (rest : List ℕ) (xs : List Inputs) → finished p ≡ true → ComesIn p s rest xs → textOf p (s .course .station) (s .course .run) xs ≡ []
+pub over-by : (p : Phase) (s : Simulation) (rest : List ℕ) (xs : List Inputs) → finished p ≡ true → ComesIn p s rest xs → textOf p (s .course .station) (s .course .run) xs ≡ []
 unfolding textOf
 over-by (Phase.Refusal refusal) s rest xs f c = absurd (let z : _≡_ {A = ℕ} 0 1 = cc f in omega arith)
 over-by Phase.Heading s rest xs f c = absurd (let z : _≡_ {A = ℕ} 0 1 = cc f in omega arith)
@@ -183,17 +183,46 @@ some-inputs {s} {last} calls =
     dark-length zero = refl
     dark-length (suc n) = ap suc (dark-length n)
 
--- ---- the calls come to an end: where each call is answered, there is such a list up to one that wants nothing, for every list of chunks
+-- ---- the calls come to an end: where each call that is handed what its types can hold is answered with such, there is such a list up to
+-- one that wants nothing, each call lent the buffer that the one before left, for every list of chunks that slices can hold
 
 module _ (One : Simulation → List ℕ → ℕ → Bool → List ℕ → Turn → List ℕ → Type 0) (owes : (s : Simulation) (chunk : List ℕ) (at : ℕ) (ended : Bool) (lent : List ℕ) (r : Turn) (left : List ℕ) → One s chunk at ended lent r left → Called s chunk at ended lent r left)
-    (lent : List ℕ) (roomy : 256 ≤ length lent) (answers : (s : Simulation) (chunk : List ℕ) (at : ℕ) (ended : Bool) → Answered One s chunk at ended lent) where
-  whole-within : (most : ℕ) (s : Simulation) (at : ℕ) (chunks : List (List ℕ)) → mostCalls s chunks ≤ most → Whole One s at chunks
-  whole-within zero s at chunks h = absurd (omega (arith, h))
-  whole-within (suc most) s at chunks h =
-      let a = answers s (first chunks) at (isEnd chunks) in
+    (RunHeld : Simulation → Type 0) (answers : (s : Simulation) (chunk : List ℕ) (at : ℕ) (ended : Bool) (lent : List ℕ) → HeldByTypes RunHeld s chunk at lent → Answered One RunHeld s chunk at ended lent) where
+  first-held : (chunks : List (List ℕ)) → SlicesHeld chunks → SliceHeld (first chunks)
+  first-held [] h = record { few = omega arith; are = tt }
+  first-held (chunk ∷ chunks) h = h .0
+
+  others-held : (chunks : List (List ℕ)) → SlicesHeld chunks → SlicesHeld (others chunks)
+  others-held [] h = tt
+  others-held (chunk ∷ chunks) h = h .1
+
+  -- the next call of the same chunk, and of the next one
+  module _ (s : Simulation) (chunk : List ℕ) (at : ℕ) (ended : Bool) (lent : List ℕ) (held : HeldByTypes RunHeld s chunk at lent) (a : Answered One RunHeld s chunk at ended lent) where
+    left-held : SliceHeld (a .left)
+    left-held = record { few = omega (arith, a .size, held .lent-held .few); are = a .are }
+
+    held-on : HeldByTypes RunHeld (a .turn .simulation) chunk (a .turn .next) (a .left)
+    held-on =
+        record {
+          run = a .run;
+          chunk-held = held .chunk-held;
+          place = omega (arith, owes s chunk at ended lent (a .turn) (a .left) (a .one) .within, held .chunk-held .few);
+          lent-held = left-held;
+        }
+
+    held-next : (chunk₂ : List ℕ) → SliceHeld chunk₂ → HeldByTypes RunHeld (a .turn .simulation) chunk₂ 0 (a .left)
+    held-next chunk₂ h = record { run = a .run; chunk-held = h; place = omega arith; lent-held = left-held }
+
+  whole-within : (most : ℕ) (s : Simulation) (at : ℕ) (chunks : List (List ℕ)) (lent : List ℕ) → HeldByTypes RunHeld s (first chunks) at lent → SlicesHeld chunks → 256 ≤ length lent → mostCalls s chunks ≤ most → Whole One s at chunks
+  whole-within zero s at chunks lent held all roomy h = absurd (omega (arith, h))
+  whole-within (suc most) s at chunks lent held all roomy h =
+      let a = answers s (first chunks) at (isEnd chunks) lent held in
+      let room : 256 ≤ length (a .left) = omega (arith, roomy, a .size) in
       by-wants (a .turn) (a .left) (a .one) (a .turn .wants) refl
-      (λ near. whole-within most (a .turn .simulation) (a .turn .next) chunks (omega (arith, near, h)))
-      (λ fewer less. whole-within most (a .turn .simulation) 0 (others chunks) (omega (arith, fewer, less, h)))
+      (λ near. whole-within most (a .turn .simulation) (a .turn .next) chunks (a .left) (held-on s (first chunks) at (isEnd chunks) lent held a) all room (omega (arith, near, h)))
+      (λ fewer less. whole-within most (a .turn .simulation) 0 (others chunks) (a .left)
+      (held-next s (first chunks) at (isEnd chunks) lent held a (first (others chunks)) (first-held (others chunks) (others-held chunks all)))
+      (others-held chunks all) room (omega (arith, fewer, less, h)))
     where
       by-wants : (r : Turn) (left : List ℕ) → One s (first chunks) at (isEnd chunks) lent r left → (w : Wants) → r .wants ≡ w
           → (weight (r .simulation) < weight s → Whole One (r .simulation) (r .next) chunks)
@@ -210,5 +239,6 @@ module _ (One : Simulation → List ℕ → ℕ → Bool → List ℕ → Turn �
       by-wants r left one Wants.Nothing e nearer fewer =
           record { count = 1; out = take (r .written) left; last = r .simulation; calls = Calls.over r lent left one roomy e; over = subst (λ (x : Wants). Stopped x s (first chunks) (isEnd chunks) lent r) e (owes s (first chunks) at (isEnd chunks) lent r left one .wants) }
 
-  pub calls-end : (s : Simulation) (chunks : List (List ℕ)) → Whole One s 0 chunks
-  calls-end s chunks = whole-within (mostCalls s chunks) s 0 chunks (omega arith)
+  pub calls-end : (s : Simulation) (chunks : List (List ℕ)) (lent : List ℕ) → RunHeld s → SlicesHeld chunks → SliceHeld lent → 256 ≤ length lent → Whole One s 0 chunks
+  calls-end s chunks lent run all held roomy =
+      whole-within (mostCalls s chunks) s 0 chunks lent (record { run = run; chunk-held = first-held chunks all; place = omega arith; lent-held = held }) all roomy (omega arith)

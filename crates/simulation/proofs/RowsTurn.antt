@@ -38,7 +38,7 @@ use Rattle.simulation.specs.declared.state.Turn.{Turn}
 use Rattle.simulation.specs.declared.state.Wants.{Wants}
 use Rattle.simulation.specs.Rows.{rowTexts, rowsWith}
 use Rattle.simulation.specs.Text.{textOf, toPrint, withPhase}
-use Rattle.simulation.specs.Turns.{ComesIn, Comes, rank, weight, Ended, Moved, phaseFor, wantsFor, withRows, waitingFor, putAt, SomeAsked}
+use Rattle.simulation.specs.Turns.{ComesIn, Comes, rank, weight, isBeforeSets, Ended, Moved, phaseFor, wantsFor, withRows, waitingFor, putAt, SomeAsked}
 use Rattle.simulation.proofs.LineLaws.{back-is}
 use Rattle.simulation.proofs.TurnLaws.{put-front, put-rest, put-size, with-split, with-none, quiet}
 
@@ -54,6 +54,13 @@ seconds-come s rest xs e c = subst (λ (p : Phase). ComesIn p s rest xs) e c
 empty : (xs : List Inputs) → length xs ≡ 0 → xs ≡ []
 empty [] e = refl
 empty (x ∷ xs) e = absurd (omega (arith, e))
+
+before-sets : (h : Halt) → isBeforeSets (phaseFor h) ≡ true
+before-sets Halt.Further = refl
+before-sets Halt.Input = refl
+before-sets Halt.Room = refl
+before-sets Halt.AllWorked = refl
+before-sets Halt.Broken = refl
 
 -- ---- rows are short
 
@@ -160,6 +167,7 @@ module _ (t : Turn) (chunk : List ℕ) (ended : Bool) (out lent : List ℕ) (out
         kept = put-rest out text (t .written) text-room;
         less = lighter (m .halt) (mv .halts);
         small = λ h. absurd (omega (arith, h, asked .want-room, asked .some));
+        early = λ n b. before-sets (m .halt);
         wants = ends (m .halt) (length text) (mv .halts);
       }
     where
@@ -190,11 +198,11 @@ module _ (t : Turn) (chunk : List ℕ) (ended : Bool) (out : List ℕ) (phase-is
       quiet t chunk ended out (withPhase s Phase.SetHeading) (t .next) Wants.Further refl
       (λ xs l. seconds-text s xs phase-is ∙ ap (λ (l : List Inputs). rowsWith (s .course .station) l (s .course .run)) (empty xs (l ∙ none)) ∙ with-none (s .course .station) (s .course .run))
       (λ rest h zs k. let c = seconds-come s (drop (t .next) chunk ++ rest) zs phase-is k in (none, empty zs (coming-length (s .course) (drop (t .next) chunk ++ rest) zs c ∙ none)))
-      at-in (omega arith) out-in (omega (arith, lighter)) lighter
+      at-in (omega arith) out-in (omega (arith, lighter)) (λ n b. refl) lighter
 
   pub no-room-turn : (least : ℕ) → (t .written ≡ 0 → least ≡ 256) → length out - t .written < least → Moved t chunk ended out (waitingFor t Wants.Room) out
   no-room-turn least first h =
-      quiet t chunk ended out (t .simulation) (t .next) Wants.Room refl (λ xs l. refl) (λ rest k zs l. l) at-in (omega arith) out-in (omega arith) (wrote (decLt 0 (t .written)), refl)
+      quiet t chunk ended out (t .simulation) (t .next) Wants.Room refl (λ xs l. refl) (λ rest k zs l. l) at-in (omega arith) out-in (omega arith) (λ n b. b) (wrote (decLt 0 (t .written)), refl)
     where
       wrote : Dec (0 < t .written) → 256 ≤ length out → 0 < t .written
       wrote (yes l) roomy = l

@@ -1,7 +1,7 @@
 -- A turn leaves what was handed over and what is still to come as it was: a phase's line, the seconds, the waits. Assumes nothing.
 use Prim.Native.Nat.{ℕ, _+_, _-_, _≤_, min}
 use mathlib.Core.Path.{_≡_, refl, sym, ap, _∙_}
-use mathlib.Core.Bool.{Bool, true}
+use mathlib.Core.Bool.{Bool, true, false}
 use mathlib.Core.List.{List, [], _∷_, _++_, append-assoc}
 use native.Mathlib.Omega.{arith}
 use lib.ListN.{length, take, drop, length-append, length-take, length-drop}
@@ -19,7 +19,7 @@ use Rattle.simulation.specs.declared.state.Turn.{Turn}
 use Rattle.simulation.specs.declared.state.Wants.{Wants}
 use Rattle.simulation.specs.Rows.{rowTexts, setTexts, rowsWith}
 use Rattle.simulation.specs.Text.{textOf, toPrint}
-use Rattle.simulation.specs.Turns.{Comes, weight, Ended, Moved, putAt}
+use Rattle.simulation.specs.Turns.{Comes, weight, isBeforeSets, Ended, Moved, putAt}
 
 -- ---- a text in a buffer
 
@@ -72,7 +72,8 @@ module _ (t : Turn) (chunk : List ℕ) (ended : Bool) (out : List ℕ) (s : Simu
     (left-same : s .course .left ≡ t .simulation .course .left)
     (text-same : (xs : List Inputs) → length xs ≡ s .course .left → toPrint (t .simulation) xs ≡ toPrint s xs)
     (comes : (rest : List ℕ) → (ended ≡ true → rest ≡ []) → (xs : List Inputs) → Comes (t .simulation) (drop (t .next) chunk ++ rest) xs → Comes s (drop next chunk ++ rest) xs)
-    (within : next ≤ length chunk) (onward : t .next ≤ next) (fits : t .written ≤ length out) (less : weight s ≤ weight (t .simulation)) where
+    (within : next ≤ length chunk) (onward : t .next ≤ next) (fits : t .written ≤ length out) (less : weight s ≤ weight (t .simulation))
+    (early : ended ≡ false → isBeforeSets (t .simulation .phase) ≡ true → isBeforeSets (s .phase) ≡ true) where
   abbrev after : Turn
   after = record { simulation = s; next = next; written = t .written; wants = wants }
 
@@ -91,5 +92,6 @@ module _ (t : Turn) (chunk : List ℕ) (ended : Bool) (out : List ℕ) (s : Simu
         kept = refl;
         less = less;
         small = λ h. refl;
+        early = early;
         wants = e;
       }

@@ -9,7 +9,7 @@ use Rattle.simulation.specs.declared.state.Simulation.{Simulation}
 use Rattle.simulation.specs.declared.state.Turn.{Turn}
 use Rattle.simulation.specs.declared.state.Wants.{Wants}
 use Rattle.simulation.specs.Text.{toPrint}
-use Rattle.simulation.specs.Turns.{Comes, ComesOn, weight, finished}
+use Rattle.simulation.specs.Turns.{Comes, ComesOn, weight, finished, isBeforeSets}
 
 abbrev pub goesOn : Wants → Bool
 goesOn Wants.Further = true
@@ -42,4 +42,6 @@ pub record Called (s : Simulation) (chunk : List ℕ) (at : ℕ) (ended : Bool) 
   pub less : weight (r .simulation) ≤ weight s
   -- a buffer that is too small for a line gets nothing
   pub small : length out < 256 → r .written ≡ 0
+  -- no set's heading or line comes before the sample file has ended
+  pub early : ended ≡ false → isBeforeSets (s .phase) ≡ true → isBeforeSets (r .simulation .phase) ≡ true
   pub wants : Stopped (r .wants) s chunk ended out r

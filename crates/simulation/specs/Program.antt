@@ -1,6 +1,6 @@
 -- THE STATEMENT of the run, over any way in which the sample file arrives in chunks and the output leaves in lent buffers: definitions
 -- only; proofs/Program.antt has the theorems, and there `One` is what the function's own contract ensures.
-use Prim.Native.Nat.{ℕ, zero, suc, _+_, _≤_}
+use Prim.Native.Nat.{ℕ, zero, suc, _+_, _^_, _≤_, _<_}
 use mathlib.Core.Path.{_≡_}
 use mathlib.Core.Bool.{Bool, true, false}
 use mathlib.Core.List.{List, [], _∷_, _++_}
@@ -55,11 +55,36 @@ pub record Prints (text : List ℕ) (most n : ℕ) (out : List ℕ) (last : Simu
 abbrev pub mostCalls : Simulation → List (List ℕ) → ℕ
 mostCalls s chunks = length chunks + weight s + 1
 
--- a call was answered
-pub record Answered (One : Simulation → List ℕ → ℕ → Bool → List ℕ → Turn → List ℕ → Type 0) (s : Simulation) (chunk : List ℕ) (at : ℕ) (ended : Bool) (lent : List ℕ) : Type 0 where
+-- ---- what the types of a call can hold: `RunHeld` says it of a run
+
+abbrev pub AreBytes : List ℕ → Type 0
+AreBytes [] = Unit {0}
+AreBytes (b ∷ bytes) = (b < 256) × AreBytes bytes
+
+-- a slice of bytes: it takes fewer than 2^63
+pub record SliceHeld (bytes : List ℕ) : Type 0 where
+  pub few : length bytes < 2 ^ 63
+  pub are : AreBytes bytes
+
+abbrev pub SlicesHeld : List (List ℕ) → Type 0
+SlicesHeld [] = Unit {0}
+SlicesHeld (chunk ∷ chunks) = SliceHeld chunk × SlicesHeld chunks
+
+-- what a call is handed; whether the file has ended is any truth value
+pub record HeldByTypes (RunHeld : Simulation → Type 0) (s : Simulation) (chunk : List ℕ) (at : ℕ) (lent : List ℕ) : Type 0 where
+  pub run : RunHeld s
+  pub chunk-held : SliceHeld chunk
+  pub place : at < 2 ^ 64
+  pub lent-held : SliceHeld lent
+
+-- a call was answered, and what it handed back is such as the types can hold: a run, and the lent buffer with as many bytes
+pub record Answered (One : Simulation → List ℕ → ℕ → Bool → List ℕ → Turn → List ℕ → Type 0) (RunHeld : Simulation → Type 0) (s : Simulation) (chunk : List ℕ) (at : ℕ) (ended : Bool) (lent : List ℕ) : Type 0 where
   pub turn : Turn
   pub left : List ℕ
   pub one : One s chunk at ended lent turn left
+  pub run : RunHeld (turn .simulation)
+  pub size : length left ≡ length lent
+  pub are : AreBytes left
 
 -- calls up to one that wants nothing
 pub record Whole (One : Simulation → List ℕ → ℕ → Bool → List ℕ → Turn → List ℕ → Type 0) (s : Simulation) (at : ℕ) (chunks : List (List ℕ)) : Type 0 where

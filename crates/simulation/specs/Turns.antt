@@ -64,6 +64,16 @@ finished (Phase.SetLine place) = false
 finished Phase.Over = true
 finished Phase.Broken = true
 
+-- nothing of the sets' heading and lines is handed over yet
+abbrev pub isBeforeSets : Phase → Bool
+isBeforeSets (Phase.Refusal refusal) = false
+isBeforeSets Phase.Heading = true
+isBeforeSets Phase.Seconds = true
+isBeforeSets Phase.SetHeading = true
+isBeforeSets (Phase.SetLine place) = false
+isBeforeSets Phase.Over = false
+isBeforeSets Phase.Broken = true
+
 -- what a turn ended for
 abbrev pub Ended : Wants → Turn → List ℕ → Bool → List ℕ → Turn → Type 0
 Ended Wants.Further t chunk ended out r = weight (r .simulation) < weight (t .simulation)
@@ -91,6 +101,8 @@ pub record Moved (t : Turn) (chunk : List ℕ) (ended : Bool) (out : List ℕ) (
   pub kept : drop (r .written) out′ ≡ drop (r .written) out
   pub less : weight (r .simulation) ≤ weight (t .simulation)
   pub small : length out < 256 → r .written ≡ t .written
+  -- no set's heading or line comes before the sample file has ended
+  pub early : ended ≡ false → isBeforeSets (t .simulation .phase) ≡ true → isBeforeSets (r .simulation .phase) ≡ true
   pub wants : Ended (r .wants) t chunk ended out r
 
 -- ---- a single line

@@ -21,7 +21,7 @@ same-length c = search needs
 returns : tie.Need-returns
 returns c =
     let start = c .before .before .before .before .before .before in
-    λ chunk e at-in. set-heading-turn (start .args .t) chunk (start .args .ended) (now (start .args .out)) at-in (start .pre .1) (start .pre .0) _ _ (c .before .before .line-turn .ensures)
+    λ chunk e at-in. set-heading-turn (start .args .t) chunk (start .args .ended) (now (start .args .out)) at-in (start .pre .1) (start .pre .0) (c .before .before .before .before .if1 .taken) _ _ (c .before .before .line-turn .ensures)
 
 -- src/turn.rt:67:5
 passed-by-requires : tie.Need-passed-by-requires
