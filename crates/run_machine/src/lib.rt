@@ -1,0 +1,3 @@
+// STUB: the machine of the program `run`.
+pub mod next;
+pub mod state;
