@@ -6,7 +6,7 @@ byte for byte with what the independent reference program prints: first cases wi
 as many others (sheets of all sizes, up to some 65,536 bytes; stations, half of them damaged), then sheets whose plain rows are cut by
 RUN's chunks at every place of a row, and at last runs of 100,000 seconds. The
 known ones, every tenth of the generated ones, each small damaged sheet and some long runs go through SMALL too (target/bin/run_small:
-the same core, fed 7 bytes at a time and emptied by 256). Most print into a pipe; every twentieth and the long ones into a file. RUN
+the same core, fed 11 bytes at a time and emptied by 256). Most print into a pipe; every twentieth and the long ones into a file. RUN
 and SMALL may be commands of several words.
 
 Says how many cases there were, which refusals they met, how many rows and bytes were compared, and fails where a refusal or a kind of

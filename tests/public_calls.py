@@ -12,7 +12,7 @@ ROOT = os.path.dirname(os.path.dirname(os.path.abspath(__file__)))
 TABLE_AFTER = '## The public calls'
 
 # No contract speaks of what the operating system moves: docs/DECISIONS.md, K13.
-WITHOUT_ENSURES = {'run_passes::program::run_program'}
+WITHOUT_ENSURES = {'run_loop::program::run_program'}
 
 
 def contract_of(text, at):

@@ -65,12 +65,12 @@ def run(case, words, answer, said, status, output=None, given=None, command=RUN)
 def complete(case, words, answer):
     """A whole run, from the shell and in tiny chunks."""
     run(case, words, answer, [], COMPLETE)
-    run(case + ', in chunks of 7 bytes', words, answer, [], None, command=SMALL)
+    run(case + ', in chunks of 11 bytes', words, answer, [], None, command=SMALL)
 
 
 def refused(case, words, refusal, said):
     run(case, words, b'refused,%s\n' % refusal.encode(), said, REFUSED)
-    run(case + ', in chunks of 7 bytes', words, b'refused,%s\n' % refusal.encode(), said, None, command=SMALL)
+    run(case + ', in chunks of 11 bytes', words, b'refused,%s\n' % refusal.encode(), said, None, command=SMALL)
 
 
 def unanswered(case, words, said, **more):

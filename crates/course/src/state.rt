@@ -57,3 +57,11 @@ pub fn seconds_to_work(course: Course) -> u32
 {
     course.left
 }
+
+// How many seconds are worked.
+pub fn seconds_worked(course: Course) -> u32
+    ensures { λ r. ⌜ r ≡ course .run .done ⌝ }
+{
+    let run = course.run;
+    run.done
+}

@@ -24,15 +24,15 @@ use rules::limits::MOST_POWER;
 use rules::limits::MOST_SHED_DELAY;
 use words::masks::existing_only;
 
-// No more than this is read of a station file.
-const MOST_READ: usize = 4096;
+// No more than this is counted of a station file's bytes.
+const MOST_COUNTED: usize = 4096;
 
 // 1
 fn say_size(size: usize) {
-    if MOST_READ <= size {
+    if MOST_COUNTED <= size {
         ask(
             b"its size",
-            size as u64,
+            MOST_COUNTED as u64,
             LEAST_FILE as u64,
             MOST_FILE as u64,
             b" bytes or more",
@@ -257,10 +257,11 @@ fn say_configuration_mask(file: &[u8], place: u64) {
     say_mask(b"its mask", mask, setcount);
 }
 
-// What is wrong with a station file that was refused with this number and place.
-pub fn say_station_fault(fault: u64, place: u64, file: &[u8]) {
+// What is wrong with a station file that was refused with this number and place. Of a file that is too long only its size is used,
+// since its bytes are not held.
+pub fn say_station_fault(fault: u64, place: u64, file: &[u8], size: usize) {
     match fault {
-        1 => say_size(file.len()),
+        1 => say_size(size),
         2 => say_entry(file, place),
         3 => say_contents_size(file),
         4 => say_control_value(file),

@@ -1,5 +1,5 @@
-// The files that a program is named on its command line: what to say on standard error where one cannot be opened or read, the start
-// of one in a buffer, and how far a long reading has come.
+// What the programs say on standard error of the files that they are named: where one cannot be opened or read, why there is no answer,
+// and how far a long reading has come.
 pub mod progress;
 pub mod source;
-pub mod start;
+pub mod why;

@@ -1,6 +1,6 @@
 // How far a long reading has come, for whoever watches a terminal.
 ghost use mathlib.Core.Path.{_≡_};
-ghost use Prim.Native.Nat.{_+_, _%_, _^_};
+ghost use Prim.Native.Nat.{_/_, max};
 use crate::source::Program;
 use crate::source::say_name;
 use explain::plain_words::number;
@@ -16,31 +16,35 @@ fn is_watched() -> bool {
     libc::isatty(libc::STDERR_FILENO) == 1
 }
 
-// Says how much was read where a further 256 MB are full and somebody may watch, and answers it.
-pub fn say_read(program: Program, before: u64, count: usize) -> u64
-    ensures { λ r. ⌜ r ≡ (before + count) % 2 ^ 64 ⌝ }
-{
-    let bytes = std::num::wrapping_add_u64(before, count as u64);
-    if bytes / TOLD_EACH <= before / TOLD_EACH {
-        return bytes;
-    }
+fn say_megabytes(program: Program, bytes: u64) {
     if !is_watched() {
-        return bytes;
+        return;
     }
     say_name(program);
     number(bytes / MEGABYTE);
     say(b" MB read\n");
-    bytes
 }
 
-// Says how many seconds are worked, where somebody may watch.
-pub fn say_worked(program: Program, done: u32, asked: u32) {
+// Says how much is read where a further 256 MB are full and somebody may watch, and answers how many times 256 MB are told.
+pub fn say_read(program: Program, told: u64, bytes: u64) -> u64
+    ensures { λ r. ⌜ r ≡ max told (bytes / 256_000_000) ⌝ }
+{
+    let full = bytes / TOLD_EACH;
+    if full <= told {
+        return told;
+    }
+    say_megabytes(program, bytes);
+    full
+}
+
+// Says how many seconds are worked, of those and what is left, where somebody may watch.
+pub fn say_worked(program: Program, done: u32, left: u32) {
     if !is_watched() {
         return;
     }
     say_name(program);
     number(done as u64);
     say(b" of ");
-    number(asked as u64);
+    number(done as u64 + left as u64);
     say(b" seconds worked\n");
 }

@@ -1,7 +1,4 @@
-// The two files by their names, and what to say where one cannot be opened or read.
-ghost use mathlib.Core.Path.{_≡_};
-ghost use lib.ListN.{length};
-ghost use Rattle.files.specs.Opening.{OpenedIn};
+// The programs and the two files by their names, and what to say where a file cannot be opened or read.
 use explain::plain_words::say;
 use explain::plain_words::show_path;
 
@@ -11,18 +8,8 @@ pub enum Program {
     Run,
 }
 
-// Which of the two files a message is about.
-pub enum Which {
-    Station,
-    Samples,
-}
-
-pub enum Opened {
-    // the descriptor, and how many bytes of the lent buffer the path has
-    At(i32, usize),
-    // a message said why
-    Nothing,
-}
+// The place of the station file among the arguments; the sample file comes after it.
+const STATION: usize = 1;
 
 pub(crate) fn say_name(program: Program) {
     match program {
@@ -31,39 +18,41 @@ pub(crate) fn say_name(program: Program) {
     }
 }
 
-fn say_call(program: Program) {
+pub(crate) fn say_call(program: Program) {
     match program {
         Program::Check => say(b"check STATION SAMPLES"),
         Program::Run => say(b"run STATION SAMPLES SECONDS"),
     }
 }
 
-fn say_which(which: Which) {
-    match which {
-        Which::Station => say(b"the station file "),
-        Which::Samples => say(b"the sample file "),
+// A file by the place of its path.
+pub(crate) fn say_which(place: usize) {
+    if place == STATION {
+        say(b"the station file ");
+        return;
     }
+    say(b"the sample file ");
 }
 
 // The system's reason is that of the call which has just failed.
-pub fn say_reason(program: Program) {
+pub(crate) fn say_reason(program: Program) {
     say_name(program);
     os::fail(b"the system's reason");
 }
 
-fn say_unnamed(program: Program, which: Which) {
+fn say_unnamed(program: Program, place: usize) {
     say_name(program);
     say(b"the path of ");
-    say_which(which);
+    say_which(place);
     say(b"cannot be used: it has more than 4095 bytes.\n");
     say_reason(program);
     say_name(program);
     say(b"move or link the file to a shorter path, and name that.\n");
 }
 
-fn say_unopened(program: Program, which: Which, path: &[u8]) {
+fn say_shut(program: Program, place: usize, path: &[u8]) {
     say_name(program);
-    say_which(which);
+    say_which(place);
     show_path(path);
     say(b" cannot be opened.\n");
     say_reason(program);
@@ -75,9 +64,18 @@ fn say_unopened(program: Program, which: Which, path: &[u8]) {
     say(b"\n");
 }
 
-pub fn say_unread(program: Program, which: Which, path: &[u8]) {
+// A path that was too long for the system was not kept, and the system's reason is still that.
+pub(crate) fn say_unopened(program: Program, place: usize, path: &[u8]) {
+    if (path.len() == 0) & (os::errno() == libc::ENAMETOOLONG) {
+        say_unnamed(program, place);
+        return;
+    }
+    say_shut(program, place, path);
+}
+
+pub(crate) fn say_unread(program: Program, place: usize, path: &[u8]) {
     say_name(program);
-    say_which(which);
+    say_which(place);
     show_path(path);
     say(b" cannot be read.\n");
     say_reason(program);
@@ -85,22 +83,4 @@ pub fn say_unread(program: Program, which: Which, path: &[u8]) {
     say(
         b"name a file and not a directory, or try again once its disk answers; nothing is known of the rest of it.\n",
     );
-}
-
-// Opens the file that an argument of the program names, and leaves its path in the lent buffer.
-pub fn open_argument(program: Program, which: Which, argument: usize, path: &mut [u8]) -> Opened
-    ensures { λ r. ⌜ OpenedIn r (now (path .exit)) × (length (now (path .exit)) ≡ length (now (path .entry))) ⌝ }
-{
-    let end = os::arg(argument, path);
-    // a path that is cut short would name another file
-    if os::errno() != 0 {
-        say_unnamed(program, which);
-        return Opened::Nothing;
-    }
-    let fd = os::open_read(&path[..end]);
-    if fd < 0 {
-        say_unopened(program, which, &path[..end]);
-        return Opened::Nothing;
-    }
-    Opened::At(fd, end)
 }

@@ -17,8 +17,8 @@ const MOST_HELD: usize = 677;
 
 // The bytes that have arrived, up to one more than a station file may have.
 pub struct StationBytes {
-    pub(crate) bytes: [u8; 677],
-    pub(crate) len: usize,
+    pub bytes: [u8; 677],
+    pub len: usize,
 }
 
 // No byte yet.

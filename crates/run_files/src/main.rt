@@ -3,5 +3,5 @@
 fn main() {
     let mut space = io::large_buffer();
     let mut room = io::large_buffer();
-    run_passes::program::run_program(&mut space, &mut room);
+    run_loop::program::run_program(&mut space, &mut room);
 }

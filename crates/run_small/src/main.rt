@@ -1,6 +1,7 @@
-// The program `run` with the smallest buffers, so that the tests see the core fed by tiny chunks and its rows leave one by one.
+// The program `run` with small buffers, so that the tests see the core fed by tiny chunks and its rows leave one by one; the seconds asked
+// have to fit into the first.
 fn main() {
-    let mut space = [0u8; 7];
+    let mut space = [0u8; 11];
     let mut room = [0u8; 256];
-    run_passes::program::run_program(&mut space, &mut room);
+    run_loop::program::run_program(&mut space, &mut room);
 }

@@ -122,7 +122,7 @@ fn work_file(way: Way, asked: u32, file: &[u8]) {
 }
 
 fn work_asked(way: Way, asked: u32, file: &mut [u8]) {
-    let got = station_bytes(2, file);
+    let got = station_bytes(file);
     if got.failed {
         return;
     }

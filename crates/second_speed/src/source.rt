@@ -1,15 +1,25 @@
 // The station file by its name, and what to say where it cannot be opened or read.
 ghost use Prim.Native.Nat.{_≤_};
 ghost use lib.ListN.{length};
+use exchange::action::Action;
+use exchange::action::BUFFER_END;
+use exchange::event::Event;
 use explain::plain_words::say;
 use explain::plain_words::show_path;
-use files::start::Filled;
-use files::start::fill;
+use perform::Files;
+use perform::no_files;
+use perform::path_end;
+use perform::perform;
 
-// A descriptor, or nothing where a message said why.
-enum Opened {
-    At(i32),
-    Nothing,
+// The place of the station file among the arguments, and of its path among the paths.
+const STATION: usize = 2;
+
+const STATION_PATH: usize = 8192;
+
+// How much of a buffer was filled from the file, and whether that failed, which a message said.
+pub(crate) struct Filled {
+    pub(crate) size: usize,
+    pub(crate) failed: bool,
 }
 
 // The system's reason comes last, since it is that of the call which has just failed.
@@ -20,37 +30,68 @@ fn say_of_file(path: &[u8], fault: &[u8]) {
     os::fail(b"second_speed: the system's reason");
 }
 
-fn open_file(path: &[u8]) -> Opened {
-    let fd = os::open_read(path);
-    if fd < 0 {
-        say_of_file(path, b" cannot be opened.\n");
-        return Opened::Nothing;
+// A path that is too long for the system was not kept.
+fn say_unopened(path: &[u8]) {
+    if (path.len() == 0) & (os::errno() == libc::ENAMETOOLONG) {
+        os::fail(b"second_speed: the station file's path cannot be used");
+        return;
     }
-    Opened::At(fd)
+    say_of_file(path, b" cannot be opened.\n");
 }
 
-// The start of the file that an argument names.
-pub(crate) fn station_bytes(argument: usize, file: &mut [u8]) -> Filled
+fn is_failed(event: Event) -> bool {
+    match event {
+        Event::Failed => true,
+        Event::Done => false,
+        Event::Count(_) => false,
+        Event::Read(_) => false,
+        Event::End => false,
+    }
+}
+
+// The start of the file that is open, as far as the buffer holds it.
+fn start_of(files: Files, paths: &mut [u8], file: &mut [u8]) -> Filled
     ensures { λ r. ⌜ r .size ≤ length (now (file .exit)) ⌝ }
 {
-    let nothing = Filled {
-        size: 0,
-        failed: true,
-    };
-    let mut path = io::buffer();
-    let end = os::arg(argument, &mut path);
-    if os::errno() != 0 {
-        os::fail(b"second_speed: the station file's path cannot be used");
-        return nothing;
+    let mut size = 0;
+    while size < file.len() {
+        let action = Action::Read(STATION, size, BUFFER_END);
+        let performed = perform(files, action, paths, file, b"");
+        let event = performed.event;
+        let Event::Read(count) = event else {
+            return Filled {
+                size,
+                failed: is_failed(event),
+            };
+        };
+        size += count;
     }
-    let found = open_file(&path[..end]);
-    let Opened::At(fd) = found else {
-        return nothing;
-    };
-    let got = fill(fd, file);
+    Filled {
+        size,
+        failed: false,
+    }
+}
+
+// The start of the station file.
+pub(crate) fn station_bytes(file: &mut [u8]) -> Filled
+    ensures { λ r. ⌜ r .size ≤ length (now (file .exit)) ⌝ }
+{
+    let mut paths = [0u8; 12288];
+    let opened = perform(no_files(), Action::Open(STATION), &mut paths, file, b"");
+    let files = opened.files;
+    let event = opened.event;
+    let from = STATION_PATH;
+    let past = from + path_end(files, STATION);
+    if is_failed(event) {
+        say_unopened(&paths[from..past]);
+        return Filled {
+            size: 0,
+            failed: true,
+        };
+    }
+    let got = start_of(files, &mut paths, file);
     if got.failed {
-        say_of_file(&path[..end], b" cannot be read.\n");
+        say_of_file(&paths[from..past], b" cannot be read.\n");
     }
-    libc::close(fd);
     got
 }

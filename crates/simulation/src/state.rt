@@ -2,6 +2,7 @@
 ghost use mathlib.Core.Path.{_≡_};
 use course::state::Course;
 use course::state::seconds_to_work;
+use course::state::seconds_worked;
 use rules::answers::Refusal;
 
 // What is to be handed over next.
@@ -60,4 +61,12 @@ pub fn seconds_left(simulation: Simulation) -> u32
 {
     let course = simulation.course;
     seconds_to_work(course)
+}
+
+// How many seconds are worked.
+pub fn seconds_done(simulation: Simulation) -> u32
+    ensures { λ r. ⌜ r ≡ simulation .course .run .done ⌝ }
+{
+    let course = simulation.course;
+    seconds_worked(course)
 }

@@ -1,2 +1,0 @@
--- Laws of a file that is open.
-pub mod Opened

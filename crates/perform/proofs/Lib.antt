@@ -1,0 +1,2 @@
+-- Laws of a part of a buffer.
+pub mod Parts

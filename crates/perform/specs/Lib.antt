@@ -1,0 +1,2 @@
+-- What can be proved of the code that performs actions.
+pub mod Shape
