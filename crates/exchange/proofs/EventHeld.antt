@@ -1,6 +1,5 @@
 -- What the type of an event can hold: that its number is one of 64 bits says the same. Assumes nothing.
-use Prim.Native.Nat.{ℕ}
-use mathlib.Core.Path.{_≡_, refl}
+use mathlib.Core.Path.{refl}
 use mathlib.Core.List.{List, [], _∷_}
 use mir.Val.{Val}
 use denote.Laws.{Is}
