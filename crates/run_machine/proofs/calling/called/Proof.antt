@@ -1,0 +1,30 @@
+-- `called` meets its contract. Assumes nothing.
+use Rattle.run_machine.proofs.CallingLaws.{plain-call, word-call, wrong-call}
+use mathlib.Core.Path.{_≡_, refl, sym, ap, _∙_, subst}
+use native.Mathlib.Omega.{arith}
+use Rattle.run_machine.specs.declared.state.Stage.{Stage}
+use borrow.Author.Needs.{needs}
+use Rattle.run_machine.proofs.calling.called.Statement.{statement}
+use Rattle.run_machine.proofs.calling.called.Tie as tie
+use Rattle.run_machine.proofs.calling.called.Reads as reads
+use Rattle.run_machine.proofs.calling.called.Lts as lts
+use Rattle.run_machine.proofs.state.stopped.Reads as stopped-reads
+
+-- src/calling.rt:22:9
+returns : tie.Need-returns
+returns c = plain-call (c .before .args .held)
+
+-- src/calling.rt:28:9
+returns-2 : tie.Need-returns-2
+returns-2 c = word-call (c .before .before .args .held)
+
+-- src/calling.rt:33:5
+stopped-requires : tie.Need-stopped-requires
+stopped-requires c κs = search needs
+
+-- src/calling.rt:18:1
+returns-3 : tie.Need-returns-3
+returns-3 c = wrong-call Stage.Counting (c .before .before .before .args .held) _ _ (λ g w. omega arith) (c .stopped .ensures)
+
+pub called-spec : {M : Type 1} → statement M
+called-spec = tie.close (tie.spec returns returns-2 stopped-requires returns-3)

@@ -1,0 +1,26 @@
+-- `named` meets its contract. Assumes nothing.
+use Rattle.run_machine.proofs.CallingLaws.{told-call, wrong-call}
+use mathlib.Core.Path.{_≡_, refl, sym, ap, _∙_, subst}
+use native.Mathlib.Omega.{arith}
+use Rattle.run_machine.specs.declared.state.Stage.{Stage}
+use borrow.Author.Needs.{needs}
+use Rattle.run_machine.proofs.calling.named.Statement.{statement}
+use Rattle.run_machine.proofs.calling.named.Tie as tie
+use Rattle.run_machine.proofs.calling.named.Reads as reads
+use Rattle.run_machine.proofs.calling.named.Lts as lts
+use Rattle.run_machine.proofs.state.stopped.Reads as stopped-reads
+
+-- src/calling.rt:60:9
+stopped-requires : tie.Need-stopped-requires
+stopped-requires c κs = search needs
+
+-- src/calling.rt:60:9
+returns : tie.Need-returns
+returns c = wrong-call Stage.Telling (c .before .before .args .held) _ _ (λ g w. omega arith) (c .stopped .ensures)
+
+-- src/calling.rt:56:1
+returns-2 : tie.Need-returns-2
+returns-2 c = told-call (c .before .args .held)
+
+pub named-spec : {M : Type 1} → statement M
+named-spec = tie.close (tie.spec stopped-requires returns returns-2)

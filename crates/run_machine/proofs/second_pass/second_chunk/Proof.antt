@@ -1,0 +1,53 @@
+-- `second_chunk` meets its contract. Assumes nothing.
+use Rattle.run_machine.proofs.SecondPassLaws.{second-enters, entering-stops}
+use denote.Ref.{now}
+use mathlib.Core.Path.{_≡_, refl, sym, ap, _∙_, subst}
+use borrow.Author.Needs.{needs}
+use Rattle.run_machine.proofs.second_pass.second_chunk.Statement.{statement}
+use Rattle.run_machine.proofs.second_pass.second_chunk.Tie as tie
+use Rattle.run_machine.proofs.second_pass.second_chunk.Reads as reads
+use Rattle.run_machine.proofs.second_pass.second_chunk.Lts as lts
+use Rattle.intake.proofs.tally.tallied.Reads as tallied-reads
+use Rattle.run_machine.proofs.hand_over.hand_over.Reads as hand-over-reads
+use Rattle.run_machine.proofs.second_pass.first_tally.Reads as first-tally-reads
+use Rattle.run_machine.proofs.state.stopped.Reads as stopped-reads
+
+-- src/second_pass.rt:29:9
+tallied-requires : tie.Need-tallied-requires
+tallied-requires c κs = search needs
+
+-- src/second_pass.rt:30:9
+first-tally-requires : tie.Need-first-tally-requires
+first-tally-requires c κs = search needs
+
+-- src/second_pass.rt:32:9
+stopped-requires : tie.Need-stopped-requires
+stopped-requires c κs = search needs
+
+-- src/second_pass.rt:32:9
+returns : tie.Need-returns
+returns c = entering-stops (c .before .before .before .before .before .before .before .before .before .args .held) (c .before .before .before .before .before .before .before .before .before .args .size) (now (c .before .before .before .before .before .before .before .before .before .args .chunk)) (now (c .before .before .before .before .before .before .before .before .before .args .buf)) (now (c .before .before .before .before .before .before .before .before .before .args .out)) (now (c .before .before .before .before .before .before .before .before .before .args .out)) _ _ (c .stopped .ensures)
+
+-- src/second_pass.rt:39:5
+hand-over-requires : tie.Need-hand-over-requires
+hand-over-requires c κs = search needs
+
+-- src/second_pass.rt:26:1
+same-length : tie.Need-same-length
+same-length c = search needs
+
+-- src/second_pass.rt:26:1
+returns-2 : tie.Need-returns-2
+returns-2 c = second-enters (c .before .before .before .before .before .before .before .before .before .before .before .before .args .held) (c .before .before .before .before .before .before .before .before .before .before .before .before .args .size) (now (c .before .before .before .before .before .before .before .before .before .before .before .before .args .chunk)) (now (c .before .before .before .before .before .before .before .before .before .before .before .before .args .buf)) (now (c .before .before .before .before .before .before .before .before .before .before .before .before .args .out)) _ (c .before .before .before .before .before .before .before .before .tallied .result) _ (c .before .before .before .before .before .before .before .before .tallied .ensures) (c .before .before .hand-over .ensures)
+
+pub second-chunk-spec : {M : Type 1} → statement M
+second-chunk-spec =
+    tie.close
+    (tie.spec
+    tallied-requires
+    first-tally-requires
+    stopped-requires
+    returns
+    hand-over-requires
+    same-length
+    returns-2)

@@ -1,0 +1,114 @@
+// How the program was called, and the reading of both files that follows.
+ghost use Rattle.run_machine.specs.declared.state.Stage.{Stage};
+ghost use Rattle.run_machine.specs.Steps.{Calls, StepsFrom};
+use crate::state::Held;
+use crate::state::Machine;
+use crate::state::Stage;
+use crate::state::stopped;
+use exchange::action::Why;
+use exchange::event::Event;
+use judging::judge::judge;
+use judging::state::JudgeStage;
+
+// The program's own name, STATION, SAMPLES and SECONDS; bin/run adds a word.
+const PLAIN: usize = 4;
+
+const WITH_WORD: usize = 5;
+
+fn called(held: Held, count: usize) -> Machine
+    ensures { λ r. ⌜ Calls Stage.Counting held r ⌝ }
+{
+    if count == PLAIN {
+        return Machine {
+            stage: Stage::Judging,
+            held,
+        };
+    }
+    if count == WITH_WORD {
+        return Machine {
+            stage: Stage::Telling,
+            held,
+        };
+    }
+    stopped(held, Why::WrongCall)
+}
+
+pub(crate) fn counted(held: Held, event: Event, buf: &[u8], out: &mut [u8]) -> Machine
+    ensures { λ r. ⌜ StepsFrom Stage.Counting held event (now (buf .entry)) (now (out .entry)) r (now (out .exit)) ⌝ }
+{
+    match event {
+        Event::Count(count) => called(held, count),
+        Event::Done => stopped(held, Why::Broken),
+        Event::Read(_) => stopped(held, Why::Broken),
+        Event::End => stopped(held, Why::Broken),
+        Event::Failed => stopped(held, Why::Broken),
+    }
+}
+
+// Whether the word is `-3`: the descriptor that bin/run reads the end from.
+fn is_told(word: &[u8], size: usize) -> bool {
+    if word.len() < 2 {
+        return false;
+    }
+    (size == 2) & (word[0] == b'-') & (word[1] == b'3')
+}
+
+fn named(held: Held, told: bool) -> Machine
+    ensures { λ r. ⌜ Calls Stage.Telling held r ⌝ }
+{
+    if !told {
+        return stopped(held, Why::WrongCall);
+    }
+    let mut h = held;
+    h.told = true;
+    Machine {
+        stage: Stage::Judging,
+        held: h,
+    }
+}
+
+pub(crate) fn telling(held: Held, event: Event, buf: &[u8], out: &mut [u8]) -> Machine
+    ensures { λ r. ⌜ StepsFrom Stage.Telling held event (now (buf .entry)) (now (out .entry)) r (now (out .exit)) ⌝ }
+{
+    match event {
+        Event::Read(size) => named(held, is_told(buf, size)),
+        Event::Done => stopped(held, Why::Broken),
+        Event::Count(_) => stopped(held, Why::Broken),
+        Event::End => stopped(held, Why::Broken),
+        Event::Failed => stopped(held, Why::WrongCall),
+    }
+}
+
+// Both files are judged, or one could not be read.
+pub(crate) fn judged(held: Held, event: Event, buf: &[u8], out: &mut [u8]) -> Machine
+    ensures { λ r. ⌜ StepsFrom Stage.Judging held event (now (buf .entry)) (now (out .entry)) r (now (out .exit)) ⌝ }
+{
+    let judging = judge(held.judging, event, buf);
+    let stage = judging.stage;
+    let mut h = held;
+    h.judging = judging;
+    match stage {
+        JudgeStage::Judged => Machine {
+            stage: Stage::AskSeconds,
+            held: h,
+        },
+        JudgeStage::Stopped(why) => stopped(h, why),
+        JudgeStage::OpenStation => reading(h),
+        JudgeStage::ReadStation => reading(h),
+        JudgeStage::OpenSamples => reading(h),
+        JudgeStage::ToStart => reading(h),
+        JudgeStage::ReadSamples => reading(h),
+    }
+}
+
+// The files are read on.
+fn reading(held: Held) -> Machine
+    ensures { λ r. ⌜ r ≡ record { stage = Stage.Judging; held = held } ⌝ }
+{
+    Machine {
+        stage: Stage::Judging,
+        held,
+    }
+}
+
+ghost use mathlib.Core.Path.{_≡_};
