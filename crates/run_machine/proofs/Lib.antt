@@ -4,3 +4,4 @@ pub mod CallingLaws
 pub mod SecondsLaws
 pub mod HandingLaws
 pub mod SecondPassLaws
+pub mod Program
