@@ -1,6 +1,7 @@
--- What each step keeps, and the theorem over lists of events.
+-- What each step keeps, the theorem over lists of events, and that such lists exist.
 pub mod StopLaws
 pub mod AnswerLaws
 pub mod PutLaws
 pub mod StepLaws
 pub mod Program
+pub mod Existing

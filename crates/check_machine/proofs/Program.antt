@@ -67,7 +67,7 @@ pub record Stepped (m : Machine) (e : Event) (buf out : List ℕ) (r : Machine) 
 abbrev pub asksOf : Machine → Action
 asksOf m = asks (m .stage) (m .held .judging .stage)
 
-open-owes : {m : Machine} → Opened m → Opens m
+pub open-owes : {m : Machine} → Opened m → Opens m
 open-owes {m} o = o .returned
 
 asked-owes : {m : Machine} {a : Action} → Asked m a → a ≡ asksOf m
@@ -75,14 +75,14 @@ asked-owes {m} {a} s =
     let k : a ≡ asksOf (s .args .0) = s .returned in
     k ∙ ap asksOf (s .passed)
 
-step-owes : {m r : Machine} {e : Event} {buf out left : List ℕ} → Stepped m e buf out r left → StepsFrom (m .stage) (m .held) e buf out r left
+pub step-owes : {m r : Machine} {e : Event} {buf out left : List ℕ} → Stepped m e buf out r left → StepsFrom (m .stage) (m .held) e buf out r left
 step-owes {m} {r} {e} {buf} {out} {left} s =
     let k : StepsFrom (s .args .0 .stage) (s .args .0 .held) (s .args .1 .0) (now (s .args .1 .1 .0)) (now (s .args .1 .1 .1 .0)) r (now (s .exit .1 .1 .1 .0)) = s .returned in
     rw (s .passed .0, s .passed .1, s .passed .2, s .passed .3, s .seen) at k
 
 -- ---- the start
 
-opens-holds : (g : Files) (m : Machine) (w : World) (out : List ℕ) → Opens m → Starting g w → Holds g m w out
+pub opens-holds : (g : Files) (m : Machine) (w : World) (out : List ℕ) → Opens m → Starting g w → Holds g m w out
 opens-holds g m w out o s =
     let judges : JudgeHoldsAt (m .held .judging .stage) g (m .held .judging .held) w = subst (λ (j : JudgeStage). JudgeHoldsAt j g (m .held .judging .held) w) (sym (o .reading-is .stage-is)) (o .reading-is .holds g w (s .unread)) in
     subst (λ (stage : Stage). HoldsAt stage g (m .held) w out) (sym (o .stage-is)) (record { judges = judges; unwritten = s .unwritten })

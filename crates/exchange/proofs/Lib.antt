@@ -1,2 +1,5 @@
 -- What holds of every program that is such a machine.
 pub mod EventLaws
+pub mod BufferLaws
+pub mod ExistLaws
+pub mod EventHeld

@@ -1,5 +1,5 @@
 -- Bytes: texts, little-endian numbers, decimal numbers, and the parts of a text between two bytes of a kind.
-use Prim.Native.Nat.{ℕ, zero, suc, _+_, _-_, _*_, _/_, _%_}
+use Prim.Native.Nat.{ℕ, zero, suc, _+_, _-_, _*_, _/_, _%_, _^_, _<_}
 use Prim.Native.Char.{code}
 use Prim.Native.String as S
 use mathlib.Core.Bool.{Bool, true, false, _&&_}
@@ -36,6 +36,17 @@ same [] [] = true
 same [] (y ∷ ys) = false
 same (x ∷ xs) [] = false
 same (x ∷ xs) (y ∷ ys) = eqb x y && same xs ys
+
+-- ---- what can be a file's bytes, and what a slice of bytes can hold
+
+abbrev pub AreBytes : List ℕ → Type 0
+AreBytes [] = Unit {0}
+AreBytes (b ∷ bs) = (b < 256) × AreBytes bs
+
+-- a slice takes fewer than 2^63
+pub record SliceHeld (bs : List ℕ) : Type 0 where
+  pub few : length bs < 2 ^ 63
+  pub are : AreBytes bs
 
 -- ---- "Little-endian."
 

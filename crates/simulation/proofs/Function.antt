@@ -18,6 +18,7 @@ use denote.Struct.Laws.{val, tells}
 use denote.Triple.Clauses as clauses
 use Rattle.rules.specs.declared.answers.Refusal.{Refusal}
 use Rattle.rules.specs.declared.station.Station.{Station}
+use Rattle.rules.specs.Bytes.{AreBytes, SliceHeld}
 use Rattle.rules.specs.Answers.{Answer, accepted, refused}
 use Rattle.rules.specs.StationFile.{stationFile}
 use Rattle.rules.specs.Run.{secondsAsked, printed}
@@ -42,7 +43,7 @@ use Rattle.simulation.specs.Text.{textOf}
 use Rattle.simulation.specs.Turns.{ComesIn}
 use Rattle.simulation.specs.Calls.{Called}
 use Rattle.simulation.specs.Begin.{BegunAs}
-use Rattle.simulation.specs.Program.{Calls, Prints, mostCalls, AreBytes, SliceHeld, SlicesHeld, HeldByTypes, Answered, Whole}
+use Rattle.simulation.specs.Program.{Calls, Prints, mostCalls, SlicesHeld, HeldByTypes, Answered, Whole}
 use Rattle.simulation.proofs.Printed.{Starts, CheckedFor, begins-right}
 use Rattle.simulation.proofs.Program.{calls-print, OfSome, some-inputs, calls-end}
 use Rattle.simulation.proofs.state.Simulation.{the-type}

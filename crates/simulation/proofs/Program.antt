@@ -6,6 +6,7 @@ use mathlib.Core.List.{List, [], _∷_, _++_, append-nil, append-assoc}
 use native.Mathlib.Omega.{arith}
 use lib.ListN.{length, take, drop, length-append, drop-of-length-le}
 use Rattle.rules.specs.declared.run.Inputs.{Inputs}
+use Rattle.rules.specs.Bytes.{SliceHeld}
 use Rattle.samples.specs.Chunks.{joined}
 use Rattle.course.proofs.Started.{coming-length}
 use Rattle.simulation.specs.declared.state.Phase.{Phase}
@@ -15,7 +16,7 @@ use Rattle.simulation.specs.declared.state.Wants.{Wants}
 use Rattle.simulation.specs.Text.{textOf, toPrint}
 use Rattle.simulation.specs.Turns.{ComesIn, Comes, ComesOn, weight, finished}
 use Rattle.simulation.specs.Calls.{Stopped, Called}
-use Rattle.simulation.specs.Program.{first, others, isEnd, leftAt, Calls, Prints, mostCalls, SliceHeld, SlicesHeld, HeldByTypes, Answered, Whole}
+use Rattle.simulation.specs.Program.{first, others, isEnd, leftAt, Calls, Prints, mostCalls, SlicesHeld, HeldByTypes, Answered, Whole}
 use Rattle.simulation.proofs.Printed.{Starts}
 
 opposite : {A : Type 0} {b : Bool} → b ≡ true → b ≡ false → A

@@ -5,6 +5,7 @@ use mathlib.Core.Path.{_≡_}
 use mathlib.Core.Bool.{Bool, true, false}
 use mathlib.Core.List.{List, [], _∷_, _++_}
 use lib.ListN.{length, take, drop}
+use Rattle.rules.specs.Bytes.{AreBytes, SliceHeld}
 use Rattle.samples.specs.Chunks.{joined}
 use Rattle.simulation.specs.declared.state.Simulation.{Simulation}
 use Rattle.simulation.specs.declared.state.Turn.{Turn}
@@ -56,15 +57,6 @@ abbrev pub mostCalls : Simulation → List (List ℕ) → ℕ
 mostCalls s chunks = length chunks + weight s + 1
 
 -- ---- what the types of a call can hold: `RunHeld` says it of a run
-
-abbrev pub AreBytes : List ℕ → Type 0
-AreBytes [] = Unit {0}
-AreBytes (b ∷ bytes) = (b < 256) × AreBytes bytes
-
--- a slice of bytes: it takes fewer than 2^63
-pub record SliceHeld (bytes : List ℕ) : Type 0 where
-  pub few : length bytes < 2 ^ 63
-  pub are : AreBytes bytes
 
 abbrev pub SlicesHeld : List (List ℕ) → Type 0
 SlicesHeld [] = Unit {0}
