@@ -3,3 +3,4 @@ pub mod EventLaws
 pub mod BufferLaws
 pub mod ExistLaws
 pub mod EventHeld
+pub mod Expected
