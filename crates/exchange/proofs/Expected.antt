@@ -9,7 +9,7 @@ use lib.ListN.{length}
 use Rattle.rules.proofs.Tests.{never}
 use Rattle.exchange.specs.declared.action.Action.{Action}
 use Rattle.exchange.specs.declared.event.Event.{Event}
-use Rattle.exchange.specs.World.{World, FitsCount, FitsArgument, FitsRead, FitsDone, Fits}
+use Rattle.exchange.specs.World.{World, FitsCount, FitsArgument, FitsRead, FitsDone, Fits, after, afterRead, afterRewind, afterWrite}
 use Rattle.exchange.specs.Existing.{isFailed, Well}
 
 -- ---- the events that answer an action
@@ -107,7 +107,38 @@ argument-within k n e w before buf is f =
     let g : FitsArgument (Event.Read n) k w buf = subst (λ (x : Event). FitsArgument x k w buf) is (f .0) in
     g .0
 
--- ---- nothing fails
+-- ---- nothing fails, and the call stays as it was
+
+after-read : (e : Event) (k : ℕ) (w : World) → (afterRead e k w .count ≡ w .count) × (afterRead e k w .arguments ≡ w .arguments)
+after-read Event.Done k w = (refl, refl)
+after-read (Event.Count n) k w = (refl, refl)
+after-read (Event.Read n) k w = (refl, refl)
+after-read Event.End k w = (refl, refl)
+after-read Event.Failed k w = (refl, refl)
+
+after-rewind : (e : Event) (k : ℕ) (w : World) → (afterRewind e k w .count ≡ w .count) × (afterRewind e k w .arguments ≡ w .arguments)
+after-rewind Event.Done k w = (refl, refl)
+after-rewind (Event.Count n) k w = (refl, refl)
+after-rewind (Event.Read n) k w = (refl, refl)
+after-rewind Event.End k w = (refl, refl)
+after-rewind Event.Failed k w = (refl, refl)
+
+after-write : (e : Event) (n some : ℕ) (w : World) (out : List ℕ) → (afterWrite e n some w out .count ≡ w .count) × (afterWrite e n some w out .arguments ≡ w .arguments)
+after-write Event.Done n some w out = (refl, refl)
+after-write (Event.Count m) n some w out = (refl, refl)
+after-write (Event.Read m) n some w out = (refl, refl)
+after-write Event.End n some w out = (refl, refl)
+after-write Event.Failed n some w out = (refl, refl)
+
+-- no action changes the arguments
+pub after-arguments : (a : Action) (e : Event) (some : ℕ) (w : World) (out : List ℕ) → (after a e some w out .count ≡ w .count) × (after a e some w out .arguments ≡ w .arguments)
+after-arguments Action.Count e some w out = (refl, refl)
+after-arguments (Action.Argument k) e some w out = (refl, refl)
+after-arguments (Action.Open k) e some w out = (refl, refl)
+after-arguments (Action.Read k from to) e some w out = after-read e k w
+after-arguments (Action.Rewind k) e some w out = after-rewind e k w
+after-arguments (Action.Write n) e some w out = after-write e n some w out
+after-arguments (Action.Stop word) e some w out = (refl, refl)
 
 -- where the action is a read, it has a part of the buffer
 abbrev pub HasRoom : Action → List ℕ → Type 0

@@ -4,3 +4,5 @@ pub mod BufferLaws
 pub mod ExistLaws
 pub mod EventHeld
 pub mod Expected
+pub mod Words
+pub mod WellLaws

@@ -56,6 +56,16 @@ isNothing Word.Complete = false
 isNothing (Word.Refused r) = false
 isNothing (Word.Nothing why) = true
 
+-- to ask for it is to give up
+abbrev pub givesUp : Action → Bool
+givesUp Action.Count = false
+givesUp (Action.Argument k) = false
+givesUp (Action.Open k) = false
+givesUp (Action.Read k from to) = false
+givesUp (Action.Rewind k) = false
+givesUp (Action.Write n) = false
+givesUp (Action.Stop word) = isNothing word
+
 -- a read can but fail where the part of the buffer that is asked for is empty, and nothing else need fail
 abbrev pub FailsWell : Action → List ℕ → Type 0
 FailsWell Action.Count before = ⊥
