@@ -18,8 +18,9 @@ use Rattle.exchange.proofs.ExistLaws.{such-lists}
 use Rattle.exchange.proofs.EventHeld.{event-of-held, held-of-event}
 use Rattle.judging.specs.Holds.{Files}
 use Rattle.check_machine.specs.declared.state.Machine.{Machine}
-use Rattle.check_machine.specs.Holds.{Holds, steps, StepsFrom, Starting}
-use Rattle.check_machine.proofs.Program.{Opened, Stepped, asksOf, open-owes, step-owes, opens-holds}
+use Rattle.check_machine.specs.Stages.{asksOf}
+use Rattle.check_machine.specs.Holds.{Holds, steps, StepsFrom, Steps, Starting}
+use Rattle.check_machine.proofs.Program.{Opened, Stepped, open-owes, step-owes, opens-holds}
 use Rattle.check_machine.proofs.state.Machine.{the-type}
 use Rattle.check_machine.proofs.state.Machine.Laws.{the-laws}
 use Rattle.check_machine.proofs.next.begin.Kinds as begin-kinds
@@ -55,7 +56,7 @@ machine-of-next κs m h = h
 pub check-exists : ((m : Machine) (e : Event) (buf out : List ℕ) → MachineHeld m → EventHeld e → SliceHeld buf → SliceHeld out → Answered Stepped MachineHeld m e buf out)
     → (first : Machine) (g : Files) (start : World) (buf out : List ℕ) → Opened first → MachineHeld first → Starting g start → WorldHeld start → SliceHeld buf → SliceHeld out
     → Lists asksOf Stepped first start buf out
-unfolding StepsFrom
+unfolding Steps StepsFrom
 check-exists answers first g start buf out o held s world slice lent =
-    such-lists asksOf Stepped (λ m w buf out. Holds g m w out) (λ m w. steps g m w) (λ m e w before buf out some r out′ k fits one. step-owes one g w before some k fits) MachineHeld answers first start buf out
+    such-lists asksOf Stepped (λ m w buf out. Holds g m w out) (λ m w. steps g m w) (λ m e w before buf out some r out′ k fits one. (step-owes one .1 g w before some k fits .0, step-owes one .1 g w before some k fits .1)) MachineHeld answers first start buf out
     held world slice lent (opens-holds g first start out (open-owes o) s)

@@ -5,3 +5,4 @@ pub mod PutLaws
 pub mod StepLaws
 pub mod Program
 pub mod Existing
+pub mod Completes

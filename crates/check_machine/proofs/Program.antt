@@ -12,14 +12,16 @@ use contract.Lifetimes.{Lfts}
 use denote.Ref.{now}
 use denote.Triple.Clauses as clauses
 use Rattle.rules.specs.declared.answers.Refusal.{Refusal}
-use Rattle.rules.proofs.Tests.{never}
 use Rattle.rows.specs.AnswerLine.{acceptedLine, refusedLine}
 use Rattle.exchange.specs.declared.action.Action.{Action}
 use Rattle.exchange.specs.declared.action.Word.{Word}
 use Rattle.exchange.specs.declared.event.Event.{Event}
 use Rattle.exchange.specs.World.{World, leftIn, leftOf}
+use Rattle.exchange.specs.Existing.{givesUp}
 use Rattle.exchange.specs.Events.{Events, Begins}
 use Rattle.exchange.proofs.EventLaws.{events-keep}
+use Rattle.exchange.proofs.Words.{wordOf, isAnswer, no-stop}
+use Rattle.judging.proofs.AskLaws.{reading-asks}
 use Rattle.judging.specs.declared.state.JudgeStage.{JudgeStage}
 use Rattle.judging.specs.Stages.{judgeAsks}
 use Rattle.judging.specs.Holds.{Files, JudgeHoldsAt, judgeStepsAt}
@@ -27,8 +29,8 @@ use Rattle.check_machine.specs.declared.state.Stage.{Stage}
 use Rattle.check_machine.specs.declared.state.Held.{Held}
 use Rattle.check_machine.specs.declared.state.Machine.{Machine}
 use Rattle.check_machine.specs.Answer.{answered}
-use Rattle.check_machine.specs.Stages.{asks}
-use Rattle.check_machine.specs.Holds.{Told, HoldsAt, Holds, stepsAt, steps, StepsFrom, Starting, Opens}
+use Rattle.check_machine.specs.Stages.{asks, asksOf}
+use Rattle.check_machine.specs.Holds.{Told, HoldsAt, Holds, stepsAt, steps, StepsFrom, Steps, Starting, Opens}
 use Rattle.check_machine.proofs.StopLaws.{so-far}
 use Rattle.check_machine.proofs.next.begin.Reads as begin-reads
 use Rattle.check_machine.proofs.next.begin.Kinds as begin-kinds
@@ -63,10 +65,6 @@ pub record Stepped (m : Machine) (e : Event) (buf out : List ℕ) (r : Machine) 
   pub returned : next-reads.Post κs args r exit
   pub seen : now (exit .1 .1 .1 .0) ≡ left
 
--- what a machine asks for
-abbrev pub asksOf : Machine → Action
-asksOf m = asks (m .stage) (m .held .judging .stage)
-
 pub open-owes : {m : Machine} → Opened m → Opens m
 open-owes {m} o = o .returned
 
@@ -75,9 +73,9 @@ asked-owes {m} {a} s =
     let k : a ≡ asksOf (s .args .0) = s .returned in
     k ∙ ap asksOf (s .passed)
 
-pub step-owes : {m r : Machine} {e : Event} {buf out left : List ℕ} → Stepped m e buf out r left → StepsFrom (m .stage) (m .held) e buf out r left
+pub step-owes : {m r : Machine} {e : Event} {buf out left : List ℕ} → Stepped m e buf out r left → Steps m e buf out r left
 step-owes {m} {r} {e} {buf} {out} {left} s =
-    let k : StepsFrom (s .args .0 .stage) (s .args .0 .held) (s .args .1 .0) (now (s .args .1 .1 .0)) (now (s .args .1 .1 .1 .0)) r (now (s .exit .1 .1 .1 .0)) = s .returned in
+    let k : Steps (s .args .0) (s .args .1 .0) (now (s .args .1 .1 .0)) (now (s .args .1 .1 .1 .0)) r (now (s .exit .1 .1 .1 .0)) = s .returned in
     rw (s .passed .0, s .passed .1, s .passed .2, s .passed .3, s .seen) at k
 
 -- ---- the start
@@ -85,7 +83,7 @@ step-owes {m} {r} {e} {buf} {out} {left} s =
 pub opens-holds : (g : Files) (m : Machine) (w : World) (out : List ℕ) → Opens m → Starting g w → Holds g m w out
 opens-holds g m w out o s =
     let judges : JudgeHoldsAt (m .held .judging .stage) g (m .held .judging .held) w = subst (λ (j : JudgeStage). JudgeHoldsAt j g (m .held .judging .held) w) (sym (o .reading-is .stage-is)) (o .reading-is .holds g w (s .unread)) in
-    subst (λ (stage : Stage). HoldsAt stage g (m .held) w out) (sym (o .stage-is)) (record { judges = judges; unwritten = s .unwritten })
+    subst (λ (stage : Stage). HoldsAt stage g (m .held) w out) (sym (o .stage-is)) (record { ready = ap (λ (j : JudgeStage). givesUp (judgeAsks j)) (o .reading-is .stage-is); judges = judges; unwritten = s .unwritten })
 
 opens-steps : (g : Files) (m : Machine) (w : World) → Opens m → Starting g w → steps g m w ≡ length (g .station) + length (g .samples) + length (leftIn (g .later)) + 9
 opens-steps g m w o s =
@@ -97,43 +95,7 @@ opens-steps g m w o s =
 
 -- ---- the word that a stage stops with
 
-abbrev wordOf : Word → Action → Word
-wordOf none Action.Count = none
-wordOf none (Action.Argument k) = none
-wordOf none (Action.Open k) = none
-wordOf none (Action.Read k from to) = none
-wordOf none (Action.Rewind k) = none
-wordOf none (Action.Write n) = none
-wordOf none (Action.Stop word) = word
-
--- it says that there is an answer
-abbrev isAnswer : Word → Bool
-isAnswer Word.Complete = true
-isAnswer (Word.Refused r) = true
-isAnswer (Word.Nothing why) = false
-
-abbrev stopsWell : Action → Bool
-stopsWell Action.Count = false
-stopsWell (Action.Argument k) = false
-stopsWell (Action.Open k) = false
-stopsWell (Action.Read k from to) = false
-stopsWell (Action.Rewind k) = false
-stopsWell (Action.Write n) = false
-stopsWell (Action.Stop word) = isAnswer word
-
-reading-asks : (reading : JudgeStage) → stopsWell (judgeAsks reading) ≡ false
-reading-asks JudgeStage.OpenStation = refl
-reading-asks JudgeStage.ReadStation = refl
-reading-asks JudgeStage.OpenSamples = refl
-reading-asks JudgeStage.ToStart = refl
-reading-asks JudgeStage.ReadSamples = refl
-reading-asks JudgeStage.Judged = refl
-reading-asks (JudgeStage.Stopped why) = refl
-
-no-stop : {A : Type 0} (a : Action) (word : Word) → stopsWell a ≡ false → isAnswer word ≡ true → a ≡ Action.Stop word → A
-no-stop a word none some is = never (sym none ∙ ap stopsWell is ∙ some)
-
-at-stop : (stage : Stage) (word : Word) (g : Files) (h : Held) (w : World) (out : List ℕ) → isAnswer word ≡ true → asks stage (h .judging .stage) ≡ Action.Stop word → HoldsAt stage g h w out → Told word g (w .count) (w .written)
+pub at-stop : (stage : Stage) (word : Word) (g : Files) (h : Held) (w : World) (out : List ℕ) → isAnswer word ≡ true → asks stage (h .judging .stage) ≡ Action.Stop word → HoldsAt stage g h w out → Told word g (w .count) (w .written)
 at-stop Stage.Counting word g h w out some is k = no-stop Action.Count word refl some is
 at-stop Stage.Judging word g h w out some is k = no-stop (judgeAsks (h .judging .stage)) word (reading-asks (h .judging .stage)) some is
 at-stop (Stage.Answer size word′) word g h w out some is k = no-stop (Action.Write size) word refl some is
@@ -156,10 +118,10 @@ pub record Prints (g : Files) (n : ℕ) (last : Machine) (end : World) : Type 0 
   pub few : n ≤ length (g .station) + length (g .samples) + length (leftIn (g .later)) + 9
 
 pub check-prints : (n : ℕ) (first last : Machine) (g : Files) (start end : World) (buf out : List ℕ) → Opened first → Starting g start → Events asksOf Stepped n first start buf out last end → Prints g n last end
-unfolding StepsFrom
+unfolding Steps StepsFrom
 check-prints n first last g start end buf out o s events =
     let k =
-    events-keep asksOf Stepped (λ m w buf out. Holds g m w out) (λ m w. steps g m w) (λ m e w before buf out some r out′ k fits one. step-owes one g w before some k fits) events
+    events-keep asksOf Stepped (λ m w buf out. Holds g m w out) (λ m w. steps g m w) (λ m e w before buf out some r out′ k fits one. (step-owes one .1 g w before some k fits .0, step-owes one .1 g w before some k fits .1)) events
     (opens-holds g first start out (open-owes o) s) in
     let few = k .few in
     let most = opens-steps g first start (open-owes o) s in

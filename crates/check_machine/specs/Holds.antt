@@ -1,6 +1,6 @@
 -- WHAT HOLDS between two actions, of what was read and written so far; how many steps are left; and what each step owes.
 -- `proofs/Program.antt` has the theorem over lists of events.
-use Prim.Native.Nat.{ℕ, _+_, _<_}
+use Prim.Native.Nat.{ℕ, _+_, _≤_, _<_}
 use mathlib.Core.Path.{_≡_}
 use mathlib.Core.Bool.{false}
 use mathlib.Core.List.{List, [], _++_}
@@ -12,15 +12,17 @@ use Rattle.rules.specs.StationFile.{stationFile}
 use Rattle.rows.specs.AnswerLine.{acceptedLine, refusedLine}
 use Rattle.exchange.specs.declared.action.Word.{Word}
 use Rattle.exchange.specs.declared.event.Event.{Event}
+use Rattle.exchange.specs.Existing.{isFailed, isNothing, givesUp}
 use Rattle.exchange.specs.World.{World, leftIn, leftOf, againOf, Fits, after}
 use Rattle.exchange.specs.Events.{Begins}
+use Rattle.judging.specs.Stages.{judgeAsks}
 use Rattle.judging.specs.Holds.{Files, Judged, JudgeHolds, judgeSteps, Unread}
 use Rattle.judging.specs.Holds as judging
 use Rattle.check_machine.specs.declared.state.Stage.{Stage}
 use Rattle.check_machine.specs.declared.state.Held.{Held}
 use Rattle.check_machine.specs.declared.state.Machine.{Machine}
 use Rattle.check_machine.specs.Answer.{answered}
-use Rattle.check_machine.specs.Stages.{asks}
+use Rattle.check_machine.specs.Stages.{asks, asksOf}
 
 -- what is to be printed of these files
 abbrev pub text : Files → List ℕ
@@ -34,6 +36,8 @@ Told (Word.Nothing why) g count done = Begins (text g) done
 
 -- until both files are judged nothing is written
 pub record Reading (g : Files) (h : Held) (w : World) : Type 0 where
+  -- there is still something to read
+  pub ready : givesUp (judgeAsks (h .judging .stage)) ≡ false
   pub judges : JudgeHolds g (h .judging) w
   pub unwritten : w .written ≡ []
 
@@ -41,7 +45,7 @@ pub record Reading (g : Files) (h : Held) (w : World) : Type 0 where
 abbrev pub HoldsAt : Stage → Files → Held → World → List ℕ → Type 0
 HoldsAt Stage.Counting g h w out = Reading g h w
 HoldsAt Stage.Judging g h w out = Reading g h w × (w .count ≡ 3)
-HoldsAt (Stage.Answer size word) g h w out = Told word g (w .count) (w .written ++ take size out)
+HoldsAt (Stage.Answer size word) g h w out = Told word g (w .count) (w .written ++ take size out) × (isNothing word ≡ false)
 HoldsAt (Stage.LineAnswer size r) g h w out = Told (Word.Refused r) g (w .count) (w .written ++ take size out)
 HoldsAt (Stage.ToLines r) g h w out = Told (Word.Refused r) g (w .count) (w .written)
 HoldsAt (Stage.Lines r) g h w out = Told (Word.Refused r) g (w .count) (w .written)
@@ -66,15 +70,26 @@ steps g m w = stepsAt (m .stage) g (m .held) w
 
 -- ---- what each step owes
 
--- what holds stays so, and fewer steps are left
-abbrev pub Nearer : Files → Machine → World → List ℕ → ℕ → Type 0
-Nearer g r w out most = Holds g r w out × (steps g r w < most)
+-- ALL WENT WELL: nothing failed, the buffers are large enough, and the program was called with two arguments
+pub record Well (w : World) (e : Event) (buf out : List ℕ) : Type 0 where
+  pub event : isFailed e ≡ false
+  pub reads : 0 < length buf
+  pub room : 256 ≤ length out
+  pub call : w .count ≡ 3
+
+-- what holds stays so, and fewer steps are left; and where all went well, the program does not give up
+abbrev pub Nearer : Files → Machine → World → List ℕ → ℕ → Type 0 → Type 0
+Nearer g r w out most well = Holds g r w out × (steps g r w < most) × (well → givesUp (asksOf r) ≡ false)
 
 -- a step from a stage, at an event that may follow what the stage asks for
 unfoldable pub StepsFrom : Stage → Held → Event → List ℕ → List ℕ → Machine → List ℕ → Type 0
 StepsFrom stage h e buf out r out′ =
     (g : Files) (w : World) (before : List ℕ) (some : ℕ) → HoldsAt stage g h w out → Fits (asks stage (h .judging .stage)) e w before buf
-    → Nearer g r (after (asks stage (h .judging .stage)) e some w out) out′ (stepsAt stage g h w)
+    → Nearer g r (after (asks stage (h .judging .stage)) e some w out) out′ (stepsAt stage g h w) (Well w e buf out)
+
+-- THE STEP; the output buffer keeps its length
+unfoldable pub Steps : Machine → Event → List ℕ → List ℕ → Machine → List ℕ → Type 0
+Steps m e buf out r out′ = (length out′ ≡ length out) × StepsFrom (m .stage) (m .held) e buf out r out′
 
 -- nothing is written yet
 pub record Unanswered (w : World) : Type 0 where
@@ -85,29 +100,30 @@ pub record Unanswered (w : World) : Type 0 where
 abbrev pub mostAfter : Files → ℕ
 mostAfter g = length (leftIn (g .later)) + 4
 
--- both files are in order
-unfoldable pub Accepts : Machine → List ℕ → Type 0
-Accepts r out′ = (g : Files) (w : World) → Unanswered w → text g ≡ acceptedLine → Nearer g r w out′ (mostAfter g)
+-- both files are in order; a buffer of 256 bytes has room for every line
+unfoldable pub Accepts : List ℕ → Machine → List ℕ → Type 0
+Accepts out r out′ = (g : Files) (w : World) → Unanswered w → text g ≡ acceptedLine → Nearer g r w out′ (mostAfter g) (256 ≤ length out)
 
 -- one of them is refused so
-unfoldable pub Refuses : Refusal → Machine → List ℕ → Type 0
-Refuses refusal r out′ = (g : Files) (w : World) → Unanswered w → text g ≡ refusedLine refusal → Nearer g r w out′ (mostAfter g)
+unfoldable pub Refuses : Refusal → List ℕ → Machine → List ℕ → Type 0
+Refuses refusal out r out′ = (g : Files) (w : World) → Unanswered w → text g ≡ refusedLine refusal → Nearer g r w out′ (mostAfter g) (256 ≤ length out)
 
 -- and it is the sample file
-unfoldable pub RefusesLine : Refusal → Machine → List ℕ → Type 0
-RefusesLine refusal r out′ = (g : Files) (w : World) → Unanswered w → text g ≡ refusedLine refusal → againOf w 2 ≡ g .later → Nearer g r w out′ (mostAfter g)
+unfoldable pub RefusesLine : Refusal → List ℕ → Machine → List ℕ → Type 0
+RefusesLine refusal out r out′ = (g : Files) (w : World) → Unanswered w → text g ≡ refusedLine refusal → againOf w 2 ≡ g .later → Nearer g r w out′ (mostAfter g) (256 ≤ length out)
 
 -- the station is in order
-unfoldable pub AnswersSamples : Held → Machine → List ℕ → Type 0
-AnswersSamples h r out′ = (g : Files) (w : World) (st : Station) → Unanswered w → Judged g (h .judging .held) w → stationFile (g .station) ≡ accepted st → Nearer g r w out′ (mostAfter g)
+unfoldable pub AnswersSamples : Held → List ℕ → Machine → List ℕ → Type 0
+AnswersSamples h out r out′ =
+    (g : Files) (w : World) (st : Station) → Unanswered w → Judged g (h .judging .held) w → stationFile (g .station) ≡ accepted st → Nearer g r w out′ (mostAfter g) (256 ≤ length out)
 
 -- both files are judged, or the station is refused
-unfoldable pub Answers : Held → Machine → List ℕ → Type 0
-Answers h r out′ = (g : Files) (w : World) → Unanswered w → Judged g (h .judging .held) w → Nearer g r w out′ (mostAfter g)
+unfoldable pub Answers : Held → List ℕ → Machine → List ℕ → Type 0
+Answers h out r out′ = (g : Files) (w : World) → Unanswered w → Judged g (h .judging .held) w → Nearer g r w out′ (mostAfter g) (256 ≤ length out)
 
 -- the answer is written, and a chunk of the sample file has come
 unfoldable pub Searches : Refusal → Machine → Type 0
-Searches refusal r = (g : Files) (w : World) (out : List ℕ) → Told (Word.Refused refusal) g (w .count) (w .written) → Nearer g r w out (length (leftOf w 2) + 2)
+Searches refusal r = (g : Files) (w : World) (out : List ℕ) → Told (Word.Refused refusal) g (w .count) (w .written) → Nearer g r w out (length (leftOf w 2) + 2) (Unit {0})
 
 -- ---- the start
 

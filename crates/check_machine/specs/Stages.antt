@@ -20,6 +20,10 @@ asks (Stage.ToLines r) reading = Action.Rewind 2
 asks (Stage.Lines r) reading = Action.Read 2 0 bufferEnd
 asks (Stage.Stop word) reading = Action.Stop word
 
+-- what a machine asks for
+abbrev pub asksOf : Machine → Action
+asksOf m = asks (m .stage) (m .held .judging .stage)
+
 -- without a complete answer
 abbrev pub stopping : Held → Why → Machine
 stopping h why = record { stage = Stage.Stop (Word.Nothing why); held = h }

@@ -18,7 +18,7 @@ use samples::check::finish;
 use words::refusals::number_and_place;
 
 fn accept(held: Held, out: &mut [u8]) -> Machine
-    ensures { λ r. ⌜ Accepts r (now (out .exit)) ⌝ }
+    ensures { λ r. ⌜ Accepts (now (out .entry)) r (now (out .exit)) ⌝ }
 {
     let put = put_accepted(out);
     let Outcome::Row(size) = put else {
@@ -31,7 +31,7 @@ fn accept(held: Held, out: &mut [u8]) -> Machine
 }
 
 fn refuse(held: Held, refusal: Refusal, out: &mut [u8]) -> Machine
-    ensures { λ r. ⌜ Refuses refusal r (now (out .exit)) ⌝ }
+    ensures { λ r. ⌜ Refuses refusal (now (out .entry)) r (now (out .exit)) ⌝ }
 {
     let put = put_refused(refusal, out);
     let Outcome::Row(size) = put else {
@@ -45,7 +45,7 @@ fn refuse(held: Held, refusal: Refusal, out: &mut [u8]) -> Machine
 
 // Of a refused line the message shows what stands there, so that the file is read once more for it.
 fn refuse_line(held: Held, refusal: Refusal, line: u64, out: &mut [u8]) -> Machine
-    ensures { λ r. ⌜ RefusesLine refusal r (now (out .exit)) ⌝ }
+    ensures { λ r. ⌜ RefusesLine refusal (now (out .entry)) r (now (out .exit)) ⌝ }
 {
     if line == 0 {
         return refuse(held, refusal, out);
@@ -65,7 +65,7 @@ fn refuse_line(held: Held, refusal: Refusal, line: u64, out: &mut [u8]) -> Machi
 
 // The station is in order.
 fn answer_samples(held: Held, out: &mut [u8]) -> Machine
-    ensures { λ r. ⌜ AnswersSamples held r (now (out .exit)) ⌝ }
+    ensures { λ r. ⌜ AnswersSamples held (now (out .entry)) r (now (out .exit)) ⌝ }
 {
     let judging = held.judging;
     let read = judging.held;
@@ -81,7 +81,7 @@ fn answer_samples(held: Held, out: &mut [u8]) -> Machine
 
 // Both files are judged, or the station is refused.
 pub(crate) fn answer(held: Held, out: &mut [u8]) -> Machine
-    ensures { λ r. ⌜ Answers held r (now (out .exit)) ⌝ }
+    ensures { λ r. ⌜ Answers held (now (out .entry)) r (now (out .exit)) ⌝ }
 {
     let judging = held.judging;
     let read = judging.held;

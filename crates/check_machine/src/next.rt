@@ -1,5 +1,5 @@
 // THE STEP: from what came of the last action to the next.
-ghost use Rattle.check_machine.specs.Holds.{Opens, StepsFrom};
+ghost use Rattle.check_machine.specs.Holds.{Opens, Steps};
 use crate::line_search::no_line;
 use crate::lines::lines_read;
 use crate::opening::counted;
@@ -31,7 +31,7 @@ pub fn begin() -> Machine
 
 // `buf` is lent to be read into, and `out` to be written from.
 pub fn next(machine: Machine, event: Event, buf: &[u8], out: &mut [u8]) -> Machine
-    ensures { λ r. ⌜ StepsFrom (machine .stage) (machine .held) event (now (buf .entry)) (now (out .entry)) r (now (out .exit)) ⌝ }
+    ensures { λ r. ⌜ Steps machine event (now (buf .entry)) (now (out .entry)) r (now (out .exit)) ⌝ }
 {
     let held = machine.held;
     let stage = machine.stage;

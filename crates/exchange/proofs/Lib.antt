@@ -3,3 +3,6 @@ pub mod EventLaws
 pub mod BufferLaws
 pub mod ExistLaws
 pub mod EventHeld
+pub mod Expected
+pub mod Words
+pub mod WellLaws

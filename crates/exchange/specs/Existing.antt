@@ -2,6 +2,7 @@
 -- Definitions only; proofs/ExistLaws.antt has the theorem.
 use Prim.Native.Nat.{ℕ, zero, suc, _^_, _≤_, _<_, min}
 use mathlib.Core.Path.{_≡_}
+use mathlib.Core.Bool.{Bool, true, false}
 use mathlib.Core.List.{List, [], _∷_}
 use lib.ListN.{length}
 use Rattle.rules.specs.Bytes.{AreBytes}
@@ -41,6 +42,29 @@ pub record Answered {P : Type 0} (One : P → Event → List ℕ → List ℕ �
   pub are : AreBytes left
 
 -- ---- a system at which nothing fails that need not
+
+abbrev pub isFailed : Event → Bool
+isFailed Event.Done = false
+isFailed (Event.Count n) = false
+isFailed (Event.Read n) = false
+isFailed Event.End = false
+isFailed Event.Failed = true
+
+-- the word says that there is no complete answer
+abbrev pub isNothing : Word → Bool
+isNothing Word.Complete = false
+isNothing (Word.Refused r) = false
+isNothing (Word.Nothing why) = true
+
+-- to ask for it is to give up
+abbrev pub givesUp : Action → Bool
+givesUp Action.Count = false
+givesUp (Action.Argument k) = false
+givesUp (Action.Open k) = false
+givesUp (Action.Read k from to) = false
+givesUp (Action.Rewind k) = false
+givesUp (Action.Write n) = false
+givesUp (Action.Stop word) = isNothing word
 
 -- a read can but fail where the part of the buffer that is asked for is empty, and nothing else need fail
 abbrev pub FailsWell : Action → List ℕ → Type 0

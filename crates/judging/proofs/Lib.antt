@@ -4,3 +4,4 @@ pub mod StationLaws
 pub mod SampleLaws
 pub mod StepLaws
 pub mod FrameLaws
+pub mod AskLaws

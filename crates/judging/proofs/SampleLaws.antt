@@ -46,7 +46,7 @@ samples-on g h w c t chunk left fed is o =
 
 pub samples-enter : (h : Held) (chunk : List ℕ) (c : SampleCheck) (t : Tally) → FedSamples h chunk c → t ≡ talliedOf (h .tally) chunk → EntersSamples h chunk (record { stage = JudgeStage.ReadSamples; held = withSamples h c t })
 unfolding EntersSamples
-samples-enter h chunk c t fed is g w o = (samples-on g h w c t chunk (leftOf w 2) fed is o, omega arith)
+samples-enter h chunk c t fed is g w o = (samples-on g h w c t chunk (leftOf w 2) fed is o, omega arith, λ well. refl)
 
 -- a line that was refused is no accepted file
 refused-line : {A : Type 0} (c : SampleCheck) (span : Span) → streamed.isRefused (c .reader .stage) ≡ true → checkedWith c [] ≡ accepted span → A
@@ -72,6 +72,7 @@ samples-cut h chunk c t fed is cut g w o =
         later = λ st p. k .later;
       },
       omega arith,
+      λ well. refl,
     )
 
 -- ---- the steps from the stage
@@ -83,7 +84,7 @@ samples-read-steps h n buf chunk r is enters g w before out some o f =
     let left : leftOf w 2 ≡ chunk ++ drop n (leftOf w 2) = f .0 .2 ∙ ap (λ (l : List ℕ). l ++ drop n (leftOf w 2)) (sym is) in
     let fewer : length (drop n (leftOf w 2)) < length (leftOf w 2) = less-left n buf (leftOf w 2) (f .0 .0) (let h = f .0 .1 in omega (arith, h)) (f .0 .2) in
     let k = enters g w′ (record { station = o .station; check = ap (checkedWith (h .check)) (sym left) ∙ o .check; tally = ap (talliedOf (h .tally)) (sym left) ∙ o .tally; later = o .later }) in
-    (k .0, let less = k .1 in omega (arith, less, fewer))
+    (k .0, let less = k .1 in omega (arith, less, fewer), λ well. k .2 tt)
 
 pub samples-end-steps : (h : Held) (buf : List ℕ) → JudgesFrom JudgeStage.ReadSamples h Event.End buf (record { stage = JudgeStage.Judged; held = h })
 unfolding talliedOf JudgesFrom
@@ -95,4 +96,5 @@ samples-end-steps h buf g w before out some o f = (
     later = λ st p. o .later;
   },
   omega arith,
+  λ well. refl,
 )

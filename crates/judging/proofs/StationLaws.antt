@@ -35,7 +35,7 @@ station-on g h w f size chunk left fed o = record { station = sym (fed left) ∙
 -- a chunk, and the file is read on
 pub station-enters : (h : Held) (chunk : List ℕ) (f : StationBytes) (size : ℕ) → FedStation h chunk f → EntersStation h chunk (record { stage = JudgeStage.ReadStation; held = withStation h f size })
 unfolding EntersStation
-station-enters h chunk f size fed g w o = (station-on g h w f size chunk (leftOf w 1) fed o, omega arith)
+station-enters h chunk f size fed g w o = (station-on g h w f size chunk (leftOf w 1) fed o, omega arith, λ well. refl)
 
 -- a file that is too long is not
 pub station-cut : (h : Held) (chunk : List ℕ) (f : StationBytes) (size : ℕ) (r : Judging) → FedStation h chunk f
@@ -43,7 +43,7 @@ pub station-cut : (h : Held) (chunk : List ℕ) (f : StationBytes) (size : ℕ) 
 unfolding EndsStation EntersStation
 station-cut h chunk f size r fed long ends g w o =
     let k = ends g w (opening-with g (withStation h f size) w [] (leftOf w 1) (long (leftOf w 1)) (station-on g h w f size chunk (leftOf w 1) fed o)) in
-    (k .0, let less = k .1 in omega (arith, less))
+    (k .0, let less = k .1 in omega (arith, less), λ well. k .2 tt)
 
 -- a refused station needs no samples
 pub station-refused : (h : Held) → isRefused (stationWith (h .file) []) ≡ true → EndsStation h (record { stage = JudgeStage.Judged; held = h })
@@ -52,12 +52,13 @@ station-refused h e g w o =
     let r : isRefused (stationFile (g .station)) ≡ true = ap isRefused (sym (o .station)) ∙ e in (
       record { station = o .station; check = λ st p. never (ap isRefused (sym p) ∙ r); tally = λ st span p q. never (ap isRefused (sym p) ∙ r); later = λ st p. never (ap isRefused (sym p) ∙ r) },
       omega arith,
+      λ well. refl,
     )
 
 -- an accepted one needs them
 pub station-accepted : (h : Held) → EndsStation h (record { stage = JudgeStage.OpenSamples; held = h })
 unfolding EndsStation
-station-accepted h g w o = (o, omega arith)
+station-accepted h g w o = (o, omega arith, λ well. refl)
 
 -- ---- the steps from the stage
 
@@ -68,10 +69,10 @@ station-read-steps h n buf chunk r is enters g w before out some o f =
     let left : leftOf w 1 ≡ chunk ++ drop n (leftOf w 1) = f .0 .2 ∙ ap (λ (l : List ℕ). l ++ drop n (leftOf w 1)) (sym is) in
     let fewer : length (drop n (leftOf w 1)) < length (leftOf w 1) = less-left n buf (leftOf w 1) (f .0 .0) (let h = f .0 .1 in omega (arith, h)) (f .0 .2) in
     let k = enters g w′ (record { station = ap (stationWith (h .file)) (sym left) ∙ o .station; check = o .check; tally = o .tally; ahead = o .ahead }) in
-    (k .0, let less = k .1 in omega (arith, less, fewer))
+    (k .0, let less = k .1 in omega (arith, less, fewer), λ well. k .2 tt)
 
 pub station-end-steps : (h : Held) (buf : List ℕ) (r : Judging) → EndsStation h r → JudgesFrom JudgeStage.ReadStation h Event.End buf r
 unfolding JudgesFrom EndsStation
 station-end-steps h buf r ends g w before out some o f =
     let k = ends g w (opening-with g h w [] (leftOf w 1) (ap (stationWith (h .file)) (sym (f .0))) o) in
-    (k .0, let less = k .1 in omega (arith, less))
+    (k .0, let less = k .1 in omega (arith, less), λ well. k .2 tt)

@@ -6,6 +6,7 @@ use mathlib.Core.List.{List, [], _∷_}
 use native.Mathlib.Omega.{arith}
 use lib.ListN.{length}
 use Rattle.rules.specs.StationFile.{stationFile}
+use Rattle.rules.proofs.Tests.{never}
 use Rattle.intake.specs.declared.tally.Tally.{Tally}
 use Rattle.intake.specs.Stations.{stationWith}
 use Rattle.intake.specs.Tally.{noBytes, talliedOf}
@@ -44,27 +45,27 @@ checking-from g h w w′ o left later =
 
 pub open-station : (h : Held) (e : Event) (buf : List ℕ) → JudgesFrom JudgeStage.OpenStation h e buf (movedBy e h JudgeStage.ReadStation (Why.Unopened 1))
 unfolding JudgesFrom
-open-station h Event.Done buf g w before out some o f = (o, omega arith)
+open-station h Event.Done buf g w before out some o f = (o, omega arith, λ well. refl)
 open-station h (Event.Count n) buf g w before out some o f = absurd (f .0)
 open-station h (Event.Read n) buf g w before out some o f = absurd (f .0)
 open-station h Event.End buf g w before out some o f = absurd (f .0)
-open-station h Event.Failed buf g w before out some o f = (tt, omega arith)
+open-station h Event.Failed buf g w before out some o f = (tt, omega arith, λ well. never (sym well))
 
 pub open-samples : (b : Bool) (h : Held) (e : Event) (buf : List ℕ) → h .twice ≡ b → JudgesFrom JudgeStage.OpenSamples h e buf (openedBy b e h)
 unfolding JudgesFrom
-open-samples true h Event.Done buf is g w before out some o f = ((o, is), omega arith)
+open-samples true h Event.Done buf is g w before out some o f = ((o, is), omega arith, λ well. refl)
 open-samples false h Event.Done buf is g w before out some o f =
     let ahead : Ahead false g (w .files 2) = subst (λ (b : Bool). Ahead b g (w .files 2)) is (o .ahead) in
     let same : length (leftOf w 2) ≡ length (g .samples) = ap length (ahead .0) in
-    (checking-from g h w w o (ahead .0) (ahead .1), omega (arith, same))
+    (checking-from g h w w o (ahead .0) (ahead .1), omega (arith, same), λ well. refl)
 open-samples true h (Event.Count n) buf is g w before out some o f = absurd (f .0)
 open-samples true h (Event.Read n) buf is g w before out some o f = absurd (f .0)
 open-samples true h Event.End buf is g w before out some o f = absurd (f .0)
-open-samples true h Event.Failed buf is g w before out some o f = (tt, omega arith)
+open-samples true h Event.Failed buf is g w before out some o f = (tt, omega arith, λ well. never (sym well))
 open-samples false h (Event.Count n) buf is g w before out some o f = absurd (f .0)
 open-samples false h (Event.Read n) buf is g w before out some o f = absurd (f .0)
 open-samples false h Event.End buf is g w before out some o f = absurd (f .0)
-open-samples false h Event.Failed buf is g w before out some o f = (tt, omega arith)
+open-samples false h Event.Failed buf is g w before out some o f = (tt, omega arith, λ well. never (sym well))
 
 pub to-start : (h : Held) (e : Event) (buf : List ℕ) → JudgesFrom JudgeStage.ToStart h e buf (movedBy e h JudgeStage.ReadSamples (Why.ReadOnce 2))
 unfolding JudgesFrom
@@ -72,8 +73,8 @@ to-start h Event.Done buf g w before out some o f =
     let ahead : againOf w 2 ≡ g .samples ∷ g .later = subst (λ (b : Bool). Ahead b g (w .files 2)) (o .1) (o .0 .ahead) in
     let left : leftIn (againOf w 2) ≡ g .samples = ap leftIn ahead in
     let same : length (leftIn (againOf w 2)) ≡ length (g .samples) = ap length left in
-    (checking-from g h w (withFile w 2 (againOf w 2)) (o .0) left (ap againIn ahead), omega (arith, same))
+    (checking-from g h w (withFile w 2 (againOf w 2)) (o .0) left (ap againIn ahead), omega (arith, same), λ well. refl)
 to-start h (Event.Count n) buf g w before out some o f = absurd (f .0)
 to-start h (Event.Read n) buf g w before out some o f = absurd (f .0)
 to-start h Event.End buf g w before out some o f = absurd (f .0)
-to-start h Event.Failed buf g w before out some o f = (tt, omega arith)
+to-start h Event.Failed buf g w before out some o f = (tt, omega arith, λ well. never (sym well))

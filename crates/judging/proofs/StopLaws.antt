@@ -1,12 +1,16 @@
--- A reading may stop anywhere; and what a read leaves is less. Assumes nothing.
+-- A reading stops for a reason; and what a read leaves is less. Assumes nothing.
 use Prim.Native.Nat.{ℕ, suc, _+_, _≤_, _<_, min}
 use mathlib.Core.Path.{_≡_, refl, sym, ap, _∙_, subst}
+use mathlib.Core.Bool.{Bool, true, false}
 use mathlib.Core.List.{List, [], _∷_, _++_}
 use native.Mathlib.Omega.{arith}
 use lib.ListN.{length, take, drop, length-take, length-append}
+use Rattle.exchange.specs.declared.action.Action.{Action}
 use Rattle.exchange.specs.declared.action.Why.{Why}
 use Rattle.exchange.specs.declared.event.Event.{Event}
-use Rattle.exchange.specs.World.{World, Fits, after}
+use Rattle.exchange.specs.Existing.{isFailed}
+use Rattle.exchange.specs.World.{World, bufferEnd, Fits, after}
+use Rattle.exchange.proofs.Expected.{isExpected, unexpected, read-within}
 use Rattle.judging.specs.declared.state.JudgeStage.{JudgeStage}
 use Rattle.judging.specs.declared.state.Held.{Held}
 use Rattle.judging.specs.declared.state.Judging.{Judging}
@@ -30,10 +34,24 @@ some-left JudgeStage.ReadSamples g e w before buf f = omega arith
 some-left JudgeStage.Judged g e w before buf f = absurd f
 some-left (JudgeStage.Stopped why) g e w before buf f = absurd f
 
-pub stop-steps : (stage : JudgeStage) (h : Held) (e : Event) (buf : List ℕ) (why : Why) (r : Judging) → r ≡ stopping h why → JudgesFrom stage h e buf r
+-- a reading may stop for a reason
+pub stop-because : (stage : JudgeStage) (h : Held) (e : Event) (buf : List ℕ) (why : Why) (r : Judging) → r ≡ stopping h why
+    → ((w : World) (before : List ℕ) → Fits (judgeAsks stage) e w before buf → isFailed e ≡ false → ⊥) → JudgesFrom stage h e buf r
 unfolding JudgesFrom
-stop-steps stage h e buf why r is g w before out some o f =
-    subst (λ (p : Judging). Nearer g p (after (judgeAsks stage) e some w out) (judgeStepsAt stage g w)) (sym is) (tt, some-left stage g e w before buf f)
+stop-because stage h e buf why r is reason g w before out some o f =
+    subst (λ (p : Judging). Nearer g p (after (judgeAsks stage) e some w out) (judgeStepsAt stage g w) (isFailed e ≡ false)) (sym is)
+    (tt, some-left stage g e w before buf f, λ ok. absurd (reason w before f ok))
+
+-- an event that is no answer to what was asked for is one, and a failure is
+pub stop-steps : (stage : JudgeStage) (h : Held) (e e′ : Event) (buf : List ℕ) (why : Why) (r : Judging) → r ≡ stopping h why → e ≡ e′ → isExpected (judgeAsks stage) e′ ≡ false → JudgesFrom stage h e buf r
+stop-steps stage h e e′ buf why r is same un = stop-because stage h e buf why r is (λ w before f ok. unexpected (judgeAsks stage) e e′ w before buf same un f ok)
+
+-- and so is a read of more bytes than the buffer holds
+pub short-stop : (stage : JudgeStage) (k : ℕ) (h : Held) (e : Event) (n : ℕ) (buf : List ℕ) (why : Why) (r : Judging) → judgeAsks stage ≡ Action.Read k 0 bufferEnd → r ≡ stopping h why → e ≡ Event.Read n → length buf < n
+    → JudgesFrom stage h e buf r
+short-stop stage k h e n buf why r asks is same less =
+    stop-because stage h e buf why r is
+    (λ w before f ok. let within = read-within k 0 bufferEnd n e w before buf same (subst (λ (a : Action). Fits a e w before buf) asks f) in omega (arith, within, less))
 
 -- ---- from an event or a stage that is known
 

@@ -14,11 +14,12 @@ use Rattle.samples.specs.declared.check.Span.{Span}
 use Rattle.samples.specs.ToCome.{mostPlace, placed}
 use Rattle.samples.specs.Streamed.{sheetSpan, checkedWith}
 use Rattle.exchange.specs.declared.event.Event.{Event}
+use Rattle.exchange.specs.Existing.{isFailed}
 use Rattle.exchange.specs.World.{World, leftIn, againIn, leftOf, againOf, Fits, after}
 use Rattle.judging.specs.declared.state.JudgeStage.{JudgeStage}
 use Rattle.judging.specs.declared.state.Held.{Held}
 use Rattle.judging.specs.declared.state.Judging.{Judging}
-use Rattle.judging.specs.Stages.{judgeAsks}
+use Rattle.judging.specs.Stages.{judgeAsks, isStopped}
 
 -- the files as they are read
 pub record Files : Type 0 where
@@ -83,27 +84,27 @@ judgeSteps g j w = judgeStepsAt (j .stage) g w
 
 -- ---- what each step owes
 
--- what holds stays so, and a step less is left
-abbrev pub Nearer : Files → Judging → World → ℕ → Type 0
-Nearer g r w most = JudgeHolds g r w × (judgeSteps g r w < most)
+-- what holds stays so, and a step less is left; and where all went well, the reading does not stop
+abbrev pub Nearer : Files → Judging → World → ℕ → Type 0 → Type 0
+Nearer g r w most well = JudgeHolds g r w × (judgeSteps g r w < most) × (well → isStopped (r .stage) ≡ false)
 
--- a step from a stage, at an event that may follow what the stage asks for
+-- a step from a stage, at an event that may follow what the stage asks for; only a failure stops the reading
 unfoldable pub JudgesFrom : JudgeStage → Held → Event → List ℕ → Judging → Type 0
 JudgesFrom stage h e buf r =
     (g : Files) (w : World) (before out : List ℕ) (some : ℕ) → JudgeHoldsAt stage g h w → Fits (judgeAsks stage) e w before buf
-    → Nearer g r (after (judgeAsks stage) e some w out) (judgeStepsAt stage g w)
+    → Nearer g r (after (judgeAsks stage) e some w out) (judgeStepsAt stage g w) (isFailed e ≡ false)
 
 -- the station file has come to its end, or nothing that follows changes the answer
 unfoldable pub EndsStation : Held → Judging → Type 0
-EndsStation h r = (g : Files) (w : World) → Opening g h w [] → Nearer g r w (length (g .samples) + 4)
+EndsStation h r = (g : Files) (w : World) → Opening g h w [] → Nearer g r w (length (g .samples) + 4) (Unit {0})
 
 -- a chunk of the station file
 unfoldable pub EntersStation : Held → List ℕ → Judging → Type 0
-EntersStation h chunk r = (g : Files) (w : World) → Opening g h w (chunk ++ leftOf w 1) → Nearer g r w (length (leftOf w 1) + length (g .samples) + 5)
+EntersStation h chunk r = (g : Files) (w : World) → Opening g h w (chunk ++ leftOf w 1) → Nearer g r w (length (leftOf w 1) + length (g .samples) + 5) (Unit {0})
 
 -- a chunk of the sample file
 unfoldable pub EntersSamples : Held → List ℕ → Judging → Type 0
-EntersSamples h chunk r = (g : Files) (w : World) → Checking g h w (chunk ++ leftOf w 2) → Nearer g r w (length (leftOf w 2) + 2)
+EntersSamples h chunk r = (g : Files) (w : World) → Checking g h w (chunk ++ leftOf w 2) → Nearer g r w (length (leftOf w 2) + 2) (Unit {0})
 
 -- the program begins, with nothing read
 pub record Unread (twice : Bool) (g : Files) (w : World) : Type 0 where

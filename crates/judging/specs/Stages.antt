@@ -19,6 +19,16 @@ judgeAsks JudgeStage.ReadSamples = Action.Read 2 0 bufferEnd
 judgeAsks JudgeStage.Judged = Action.Stop (Word.Nothing Why.Broken)
 judgeAsks (JudgeStage.Stopped why) = Action.Stop (Word.Nothing why)
 
+-- a file could not be read
+abbrev pub isStopped : JudgeStage → Bool
+isStopped JudgeStage.OpenStation = false
+isStopped JudgeStage.ReadStation = false
+isStopped JudgeStage.OpenSamples = false
+isStopped JudgeStage.ToStart = false
+isStopped JudgeStage.ReadSamples = false
+isStopped JudgeStage.Judged = false
+isStopped (JudgeStage.Stopped why) = true
+
 abbrev pub stopping : Held → Why → Judging
 stopping h why = record { stage = JudgeStage.Stopped why; held = h }
 

@@ -59,5 +59,5 @@ pub run-exists : ((m : Machine) (e : Event) (buf out : List ℕ) → MachineHeld
     → Lists asksOf Stepped first start buf out
 unfolding Steps Opens
 run-exists answers first g start buf out o held s world slice lent =
-    such-lists asksOf Stepped (Holds g) (stepsLeft g) (λ m e w before buf out some r out′ k fits one. step-owes one g w before some k fits) MachineHeld answers first start buf out
+    such-lists asksOf Stepped (Holds g) (stepsLeft g) (λ m e w before buf out some r out′ k fits one. (step-owes one .1 g w before some k fits .0, step-owes one .1 g w before some k fits .1)) MachineHeld answers first start buf out
     held world slice lent (open-owes o g start buf out s .0)

@@ -15,7 +15,7 @@ use Rattle.simulation.specs.declared.state.Turn.{Turn}
 use Rattle.simulation.specs.declared.state.Wants.{Wants}
 use Rattle.simulation.specs.Rows.{rowsWith}
 use Rattle.simulation.specs.Text.{toPrint}
-use Rattle.simulation.specs.Turns.{ComesOn, finished, weight}
+use Rattle.simulation.specs.Turns.{ComesIn, ComesOn, finished, isBeforeSets, weight}
 use Rattle.simulation.specs.Calls as calls
 use Rattle.simulation.specs.Calls.{Called}
 use Rattle.simulation.proofs.Program.{comes-length, over-by}
@@ -70,7 +70,7 @@ some-on s chunk at out t out′ done c o =
 tallies-on : (ended : Bool) (g : Given) (first second : Tally) (left : List ℕ) (s : Simulation) (chunk : List ℕ) (at : ℕ) (out : List ℕ) (t : Turn) (out′ done : List ℕ) → Called s chunk at ended out t out′
     → Tallies ended g first second left s done → Tallies ended g first second left (t .simulation) (done ++ take (t .written) out′)
 tallies-on true g first second left s chunk at out t out′ done c k = k
-tallies-on false g first second left s chunk at out t out′ done c k = (k .0, k .1, some-on s chunk at out t out′ done c (k .2))
+tallies-on false g first second left s chunk at out t out′ done c k = (k .0, k .1, some-on s chunk at out t out′ done c (k .2), k .3)
 
 wants-right : (wants : Wants) (h : Held) (buf out : List ℕ) (t : Turn) → calls.Stopped wants (h .simulation) (take (h .chunk) buf) (h .ended) out t → Wanting wants (withTurn h t) buf
 wants-right Wants.Further h buf out t z = absurd z
@@ -98,16 +98,20 @@ call-hands h buf chunk out t out′ is c g w roomy k =
       record {
         handing = record {
           goes = λ same. goes-on g (h .simulation) (take (h .chunk) buf) (h .at) (h .ended) out t out′ (afterChunk (h .ended) (leftOf w 2)) (w .written) d (after-end (h .ended) (leftOf w 2)) (k .goes same);
+          within = k .within;
           tallies = tallies-on (h .ended) g (h .judging .held .tally) (h .second) (leftOf w 2) (h .simulation) (take (h .chunk) buf) (h .at) out t out′ (w .written) d (k .tallies);
         };
         wanting = wants-right (t .wants) h buf out t (d .wants);
       },
       call-nearer (t .wants) (h .simulation) (take (h .chunk) buf) (h .ended) out t (passSteps (h .ended) (leftOf w 2)) roomy (d .less) (d .wants),
+      λ well. refl,
     )
 
-pub handing-stops : (h : Held) (buf out out′ : List ℕ) (why : Why) (r : Machine) → r ≡ stopping h why → HandsOver h buf out r out′
+-- the chunk always lies within the buffer
+pub handing-stops : (h : Held) (buf out out′ : List ℕ) (why : Why) (r : Machine) → length buf < h .chunk → r ≡ stopping h why → HandsOver h buf out r out′
 unfolding HandsOver
-handing-stops h buf out out′ why r is g w roomy k = nearer-stop g h w buf out′ _ why r is (handing-unfinished g h w buf (w .written) k) (omega arith)
+handing-stops h buf out out′ why r short is g w roomy k =
+    nearer-stop g h w buf out′ _ _ why r is (handing-unfinished g h w buf (w .written) k) (omega arith) (λ well. let within = k .within in omega (arith, within, short))
 
 -- ---- the end of a run
 
@@ -131,14 +135,49 @@ agreed-by false g first second left s done e k = never e
 
 pub complete-finishes : (h : Held) → isOver (h .simulation .phase) ≡ true → h .ended ≡ true → Finishes h (record { stage = Stage.Stop Word.Complete; held = h })
 unfolding Finishes
-complete-finishes h e d g w buf out k = (
+complete-finishes h e d g w buf out k fin = (
   (
     λ same. all-written g (h .simulation) (toRead h w buf) (w .written) e (k .goes same),
     agreed-by (h .ended) g (h .judging .held .tally) (h .second) (leftOf w 2) (h .simulation) (w .written) d (k .tallies),
   ),
   omega arith,
+  λ well. refl,
 )
 
-pub finishing-stops : (h : Held) (why : Why) (r : Machine) → r ≡ stopping h why → Finishes h r
+-- a run that wants nothing more and is not over broke off
+broken-only : (p : Phase) → isOver p ≡ false → finished p ≡ true → p ≡ Phase.Broken
+broken-only (Phase.Refusal refusal) e f = never f
+broken-only Phase.Heading e f = never f
+broken-only Phase.Seconds e f = never f
+broken-only Phase.SetHeading e f = never f
+broken-only (Phase.SetLine place) e f = never f
+broken-only Phase.Over e f = never (sym e)
+broken-only Phase.Broken e f = refl
+
+-- which no run does that reads the bytes that were judged
+pub broken-stops : (h : Held) (why : Why) (r : Machine) → isOver (h .simulation .phase) ≡ false → r ≡ stopping h why → Finishes h r
 unfolding Finishes
-finishing-stops h why r is g w buf out k = nearer-stop g h w buf out 1 why r is (handing-unfinished g h w buf (w .written) k) (omega arith)
+broken-stops h why r e is g w buf out k fin =
+    nearer-stop g h w buf out 1 _ why r is (handing-unfinished g h w buf (w .written) k) (omega arith)
+    (λ same. let goes = k .goes same in subst (λ (p : Phase). ComesIn p (h .simulation) (toRead h w buf) (goes .inputs)) (broken-only (h .simulation .phase) e fin) (goes .come))
+
+-- a run that is over has shown its sets
+over-late : (p : Phase) → isOver p ≡ true → isBeforeSets p ≡ true → ⊥
+over-late (Phase.Refusal refusal) e b = never e
+over-late Phase.Heading e b = never e
+over-late Phase.Seconds e b = never e
+over-late Phase.SetHeading e b = never e
+over-late (Phase.SetLine place) e b = never e
+over-late Phase.Over e b = never b
+over-late Phase.Broken e b = never e
+
+early-by : (ended : Bool) (g : Given) (first second : Tally) (left : List ℕ) (s : Simulation) (done : List ℕ) → ended ≡ false → Tallies ended g first second left s done → isBeforeSets (s .phase) ≡ true
+early-by true g first second left s done e k = never (sym e)
+early-by false g first second left s done e k = k .2 .early
+
+-- which none does before it was told of the file's end
+pub unended-stops : (h : Held) (why : Why) (r : Machine) → isOver (h .simulation .phase) ≡ true → h .ended ≡ false → r ≡ stopping h why → Finishes h r
+unfolding Finishes
+unended-stops h why r e d is g w buf out k fin =
+    nearer-stop g h w buf out 1 _ why r is (handing-unfinished g h w buf (w .written) k) (omega arith)
+    (λ same. over-late (h .simulation .phase) e (early-by (h .ended) g (h .judging .held .tally) (h .second) (leftOf w 2) (h .simulation) (w .written) d (k .tallies)))

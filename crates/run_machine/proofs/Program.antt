@@ -12,7 +12,6 @@ use contract.Lifetimes.{Lfts}
 use denote.Ref.{now}
 use denote.Triple.Clauses as clauses
 use Rattle.rules.specs.declared.answers.Refusal.{Refusal}
-use Rattle.rules.proofs.Tests.{never}
 use Rattle.rows.specs.AnswerLine.{refusedLine}
 use Rattle.exchange.specs.declared.action.Action.{Action}
 use Rattle.exchange.specs.declared.action.Word.{Word}
@@ -20,6 +19,8 @@ use Rattle.exchange.specs.declared.event.Event.{Event}
 use Rattle.exchange.specs.World.{World}
 use Rattle.exchange.specs.Events.{Events, Begins}
 use Rattle.exchange.proofs.EventLaws.{events-keep}
+use Rattle.exchange.proofs.Words.{wordOf, isAnswer, no-stop}
+use Rattle.judging.proofs.AskLaws.{reading-asks}
 use Rattle.judging.specs.declared.state.JudgeStage.{JudgeStage}
 use Rattle.judging.specs.Stages.{judgeAsks}
 use Rattle.run_machine.specs.declared.state.Stage.{Stage}
@@ -78,43 +79,7 @@ step-owes {m} {r} {e} {buf} {out} {left} s =
 
 -- ---- the word that a stage stops with
 
-abbrev wordOf : Word → Action → Word
-wordOf none Action.Count = none
-wordOf none (Action.Argument k) = none
-wordOf none (Action.Open k) = none
-wordOf none (Action.Read k from to) = none
-wordOf none (Action.Rewind k) = none
-wordOf none (Action.Write n) = none
-wordOf none (Action.Stop word) = word
-
--- it says that there is an answer
-abbrev isAnswer : Word → Bool
-isAnswer Word.Complete = true
-isAnswer (Word.Refused r) = true
-isAnswer (Word.Nothing why) = false
-
-abbrev stopsWell : Action → Bool
-stopsWell Action.Count = false
-stopsWell (Action.Argument k) = false
-stopsWell (Action.Open k) = false
-stopsWell (Action.Read k from to) = false
-stopsWell (Action.Rewind k) = false
-stopsWell (Action.Write n) = false
-stopsWell (Action.Stop word) = isAnswer word
-
-reading-asks : (reading : JudgeStage) → stopsWell (judgeAsks reading) ≡ false
-reading-asks JudgeStage.OpenStation = refl
-reading-asks JudgeStage.ReadStation = refl
-reading-asks JudgeStage.OpenSamples = refl
-reading-asks JudgeStage.ToStart = refl
-reading-asks JudgeStage.ReadSamples = refl
-reading-asks JudgeStage.Judged = refl
-reading-asks (JudgeStage.Stopped why) = refl
-
-no-stop : {A : Type 0} (a : Action) (word : Word) → stopsWell a ≡ false → isAnswer word ≡ true → a ≡ Action.Stop word → A
-no-stop a word none some is = never (sym none ∙ ap stopsWell is ∙ some)
-
-at-stop : (stage : Stage) (word : Word) (g : Given) (h : Held) (w : World) (buf out : List ℕ) → isAnswer word ≡ true → asks stage (h .judging .stage) ≡ Action.Stop word → HoldsAt stage g h w buf out → Stopped word g w
+pub at-stop : (stage : Stage) (word : Word) (g : Given) (h : Held) (w : World) (buf out : List ℕ) → isAnswer word ≡ true → asks stage (h .judging .stage) ≡ Action.Stop word → HoldsAt stage g h w buf out → Stopped word g w
 at-stop Stage.Counting word g h w buf out some is k = no-stop (asks Stage.Counting JudgeStage.Judged) word refl some is
 at-stop Stage.Telling word g h w buf out some is k = no-stop (asks Stage.Telling JudgeStage.Judged) word refl some is
 at-stop Stage.Judging word g h w buf out some is k = no-stop (judgeAsks (h .judging .stage)) word (reading-asks (h .judging .stage)) some is
@@ -145,7 +110,7 @@ unfolding Steps Opens
 run-prints n first last g start end buf out o s events =
     let opened = open-owes o g start buf out s in
     let k =
-    events-keep asksOf Stepped (λ m w buf out. Holds g m w buf out) (λ m w. stepsLeft g m w) (λ m e w before buf out some r out′ k fits one. step-owes one g w before some k fits) events (opened .0) in
+    events-keep asksOf Stepped (λ m w buf out. Holds g m w buf out) (λ m w. stepsLeft g m w) (λ m e w before buf out some r out′ k fits one. (step-owes one .1 g w before some k fits .0, step-owes one .1 g w before some k fits .1)) events (opened .0) in
     let far = so-far (last .stage) g (last .held) end (k .buf) (k .out) (k .holds) in
     let few = k .few in
     let most = opened .1 in

@@ -12,6 +12,7 @@ use Rattle.rules.proofs.Tests.{never, both}
 use Rattle.intake.specs.declared.tally.Tally.{Tally}
 use Rattle.intake.specs.Tally.{noBytes, talliedOf, sameTally}
 use Rattle.intake.proofs.TallyLaws.{tallied-append}
+use Rattle.samples.specs.ToCome.{mostPlace}
 use Rattle.simulation.specs.declared.state.Simulation.{Simulation}
 use Rattle.simulation.specs.declared.state.Wants.{Wants}
 use Rattle.simulation.specs.Turns.{weight}
@@ -27,26 +28,46 @@ use Rattle.run_machine.specs.Stages.{stopping, movedBy}
 use Rattle.run_machine.specs.Given.{Given, text, Agreed, Goes, OfSome}
 use Rattle.run_machine.specs.Holds.{Running, afterChunk, Tallies, toRead, Handing, Wanting, Writing, passSteps, wantSteps}
 use Rattle.run_machine.specs.Steps.{Nearer, StepsFrom, HandsOver, EntersSecond, EndsSecond, Finishes, GoesOn}
+use Rattle.run_machine.proofs.TallyCount.{count-all, count-on, none-counted, same-is}
 use Rattle.run_machine.proofs.StopLaws.{stop-steps, running-unfinished, handing-unfinished, nearer-stop}
 
 -- with a chunk of the buffer that the run is to read
 abbrev pub withChunk : Held → Tally → ℕ → Bool → Held
 withChunk h second chunk ended = record { judging = h .judging; second = second; simulation = h .simulation; chunk = chunk; at = 0; ended = ended; told = h .told; working = h .working }
 
+-- the second pass has as few bytes as the first
+again-few : (g : Given) → g .again ≡ g .samples → length (g .again) ≤ mostPlace
+again-few g same = let size : length (g .again) ≡ length (g .samples) = ap length same in let few = g .small in omega (arith, size, few)
+
 -- ---- a chunk, and the end
 
 pub second-enters : (h : Held) (n : ℕ) (chunk buf out out′ : List ℕ) (t : Tally) (r : Machine) → t ≡ talliedOf (h .second) chunk → HandsOver (withChunk h t n false) buf out r out′ → EntersSecond h n chunk buf out r out′
 unfolding HandsOver EntersSecond
-second-enters h n chunk buf out out′ t r is hands g w roomy c k =
-    hands g w roomy
+second-enters h n chunk buf out out′ t r is hands g w roomy within c k =
+    let m = hands g w roomy
     (record {
       goes = λ same. subst (λ (l : List ℕ). Goes g (h .simulation) (l ++ leftOf w 2) (w .written)) c (k .goes same);
-      tallies = (k .first, ap (λ (x : Tally). talliedOf x (leftOf w 2)) is ∙ sym (tallied-append (h .second) chunk (leftOf w 2)) ∙ k .second, k .rows);
-    })
+      within = within;
+      tallies = (
+        k .first,
+        ap (λ (x : Tally). talliedOf x (leftOf w 2)) is ∙ sym (tallied-append (h .second) chunk (leftOf w 2)) ∙ k .second,
+        k .rows,
+        λ same. ap (λ (x : Tally). x .count + length (leftOf w 2)) is ∙ count-on (h .second) chunk (leftOf w 2) (length (g .again)) (again-few g same) (k .counted same),
+      );
+    }) in
+    (m .0, m .1, λ same. m .2 tt)
 
-pub entering-stops : (h : Held) (n : ℕ) (chunk buf out out′ : List ℕ) (why : Why) (r : Machine) → r ≡ stopping h why → EntersSecond h n chunk buf out r out′
+-- a file that is the same is no longer than it was
+pub entering-stops : (h : Held) (n : ℕ) (chunk buf out out′ : List ℕ) (first second : Tally) (why : Why) (r : Machine) → first ≡ h .judging .held .tally → second ≡ talliedOf (h .second) chunk → first .count < second .count
+    → r ≡ stopping h why → EntersSecond h n chunk buf out r out′
 unfolding EntersSecond
-entering-stops h n chunk buf out out′ why r is g w roomy c k = nearer-stop g h w buf out′ _ why r is (running-unfinished g h w (chunk ++ leftOf w 2) k) (omega arith)
+entering-stops h n chunk buf out out′ first second why r first-is second-is longer is g w roomy within c k =
+    nearer-stop g h w buf out′ _ _ why r is (running-unfinished g h w (chunk ++ leftOf w 2) k) (omega arith)
+    (λ same.
+    let all : first .count ≡ length (g .samples) = ap (λ (t : Tally). t .count) (first-is ∙ k .first) ∙ count-all (g .samples) (g .small) in
+    let some : second .count + length (leftOf w 2) ≡ length (g .again) = ap (λ (t : Tally). t .count + length (leftOf w 2)) second-is ∙ count-on (h .second) chunk (leftOf w 2) (length (g .again)) (again-few g same) (k .counted same) in
+    let size : length (g .again) ≡ length (g .samples) = ap length same in
+    omega (arith, all, some, size, longer))
 
 tally-is : (a b : Tally) → sameTally a b ≡ true → a ≡ b
 unfolding sameTally
@@ -59,12 +80,15 @@ pub second-ends : (h : Held) (buf out out′ : List ℕ) (first : Tally) (r : Ma
     → EndsSecond h buf out r out′
 unfolding talliedOf HandsOver EndsSecond
 second-ends h buf out out′ first r is e hands g w roomy k =
-    let m = hands g w roomy (record { goes = k .goes; tallies = sym (k .second) ∙ sym (tally-is first (h .second) e) ∙ is ∙ k .first }) in
-    (m .0, let less = m .1 in omega (arith, less))
+    let m = hands g w roomy (record { goes = k .goes; within = omega arith; tallies = sym (k .second) ∙ sym (tally-is first (h .second) e) ∙ is ∙ k .first }) in
+    (m .0, let less = m .1 in omega (arith, less), λ same. m .2 tt)
 
-pub ending-stops : (h : Held) (buf out out′ : List ℕ) (why : Why) (r : Machine) → r ≡ stopping h why → EndsSecond h buf out r out′
-unfolding EndsSecond
-ending-stops h buf out out′ why r is g w roomy k = nearer-stop g h w buf out′ _ why r is (running-unfinished g h w [] k) (omega arith)
+-- and has the same tally
+pub ending-stops : (h : Held) (buf out out′ : List ℕ) (first : Tally) (why : Why) (r : Machine) → first ≡ h .judging .held .tally → sameTally first (h .second) ≡ false → r ≡ stopping h why → EndsSecond h buf out r out′
+unfolding talliedOf EndsSecond
+ending-stops h buf out out′ first why r first-is other is g w roomy k =
+    nearer-stop g h w buf out′ _ _ why r is (running-unfinished g h w [] k) (omega arith)
+    (λ same. never (sym other ∙ same-is first (h .second) (first-is ∙ k .first ∙ ap (talliedOf noBytes) (sym same) ∙ sym (k .second))))
 
 -- ---- the steps of the second pass
 
@@ -74,14 +98,15 @@ second-read-steps h n buf chunk out out′ r is enters g w before some o f ten r
     let w′ : World = withFile w 2 (drop n (leftOf w 2) ∷ againOf w 2) in
     let left : leftOf w 2 ≡ chunk ++ drop n (leftOf w 2) = f .0 .2 ∙ ap (λ (l : List ℕ). l ++ drop n (leftOf w 2)) (sym is) in
     let fewer : length (drop n (leftOf w 2)) < length (leftOf w 2) = less-left n buf (leftOf w 2) (f .0 .0) (let h = f .0 .1 in omega (arith, h)) (f .0 .2) in
-    let k = enters g w′ roomy is
+    let k = enters g w′ roomy (let h = f .0 .1 in omega (arith, h)) is
     (record {
       goes = λ same. subst (λ (l : List ℕ). Goes g (h .simulation) l (w .written)) left (o .goes same);
       rows = o .rows;
       first = o .first;
       second = ap (talliedOf (h .second)) (sym left) ∙ o .second;
+      counted = λ same. ap (λ (l : List ℕ). h .second .count + length l) (sym left) ∙ o .counted same;
     }) in
-    (k .0, let less = k .1 in omega (arith, less, fewer))
+    (k .0, let less = k .1 in omega (arith, less, fewer), λ well. k .2 (well .same))
 
 pub second-end-steps : (h : Held) (buf out out′ : List ℕ) (r : Machine) → EndsSecond h buf out r out′ → StepsFrom Stage.SecondPass h Event.End buf out r out′
 unfolding StepsFrom EndsSecond
@@ -92,8 +117,9 @@ second-end-steps h buf out out′ r ends g w before some o f ten roomy =
       rows = o .rows;
       first = o .first;
       second = ap (talliedOf (h .second)) (sym (f .0)) ∙ o .second;
+      counted = λ same. ap (λ (l : List ℕ). h .second .count + length l) (sym (f .0)) ∙ o .counted same;
     }) in
-    (k .0, let less = k .1 in omega (arith, less))
+    (k .0, let less = k .1 in omega (arith, less), λ well. k .2 (well .same))
 
 -- the second pass begins
 pub to-second-pass : (h : Held) (e : Event) (buf out : List ℕ) → StepsFrom Stage.ToSecondPass h e buf out (movedBy e h Stage.SecondPass (Why.ReadOnce 2)) out
@@ -106,13 +132,15 @@ to-second-pass h Event.Done buf out g w before some o f ten roomy =
         rows = subst (OfSome (h .simulation)) (sym (o .unwritten)) (o .rows);
         first = o .first;
         second = ap (talliedOf (h .second)) left ∙ ap (λ (t : Tally). talliedOf t (g .again)) (o .second);
+        counted = λ eq. let none : h .second .count ≡ 0 = ap (λ (t : Tally). t .count) (o .second) ∙ none-counted in omega (arith, none, same);
       },
       omega (arith, same),
+      λ well. refl,
     )
 to-second-pass h (Event.Count n) buf out g w before some o f ten roomy = absurd (f .0)
 to-second-pass h (Event.Read n) buf out g w before some o f ten roomy = absurd (f .0)
 to-second-pass h Event.End buf out g w before some o f ten roomy = absurd (f .0)
-to-second-pass h Event.Failed buf out g w before some o f ten roomy = stop-steps Stage.ToSecondPass h Event.Failed buf out out (Why.ReadOnce 2) _ refl g w before some o f ten roomy
+to-second-pass h Event.Failed buf out g w before some o f ten roomy = stop-steps Stage.ToSecondPass h Event.Failed Event.Failed buf out out (Why.ReadOnce 2) _ refl refl refl g w before some o f ten roomy
 
 -- ---- the bytes of a call were written
 
@@ -138,8 +166,10 @@ input-goes h wanted buf out out′ is g w roomy k wanting =
         rows = t .2;
         first = t .0;
         second = t .1;
+        counted = t .3;
       },
       omega (arith, base, one),
+      λ same. refl,
     )
 
 -- another buffer is wanted
@@ -148,7 +178,7 @@ unfolding HandsOver GoesOn
 room-goes h wants buf out out′ r is hands g w roomy k wanting =
     let two : wantSteps wants ≡ 2 = ap wantSteps is in
     let m = hands g w roomy k in
-    (m .0, let less = m .1 in omega (arith, less, two))
+    (m .0, let less = m .1 in omega (arith, less, two), λ same. m .2 tt)
 
 some-wanted : (wants : Wants) → 1 ≤ wantSteps wants
 some-wanted Wants.Further = omega arith
@@ -157,30 +187,32 @@ some-wanted Wants.Room = omega arith
 some-wanted Wants.Nothing = omega arith
 
 -- nothing more is wanted
-pub nothing-goes : (h : Held) (wants : Wants) (buf out out′ : List ℕ) (r : Machine) → Finishes h r → GoesOn h wants buf out r out′
+pub nothing-goes : (h : Held) (wants : Wants) (buf out out′ : List ℕ) (r : Machine) → wants ≡ Wants.Nothing → Finishes h r → GoesOn h wants buf out r out′
 unfolding Finishes GoesOn
-nothing-goes h wants buf out out′ r finishes g w roomy k wanting =
-    let m = finishes g w buf out′ k in
+nothing-goes h wants buf out out′ r is finishes g w roomy k wanting =
+    let m = finishes g w buf out′ k (subst (λ (x : Wants). Wanting x h buf) is wanting) in
     let one = some-wanted wants in
-    (m .0, let less = m .1 in omega (arith, less, one))
+    (m .0, let less = m .1 in omega (arith, less, one), m .2)
 
-pub writing-stops : (h : Held) (wants : Wants) (buf out out′ : List ℕ) (why : Why) (r : Machine) → r ≡ stopping h why → GoesOn h wants buf out r out′
+-- no call ends without a want
+pub writing-stops : (h : Held) (wants : Wants) (buf out out′ : List ℕ) (why : Why) (r : Machine) → wants ≡ Wants.Further → r ≡ stopping h why → GoesOn h wants buf out r out′
 unfolding GoesOn
-writing-stops h wants buf out out′ why r is g w roomy k wanting =
-    nearer-stop g h w buf out′ _ why r is (handing-unfinished g h w buf (w .written) k) (let one = some-wanted wants in omega (arith, one))
+writing-stops h wants buf out out′ why r further is g w roomy k wanting =
+    nearer-stop g h w buf out′ _ _ why r is (handing-unfinished g h w buf (w .written) k) (let one = some-wanted wants in omega (arith, one)) (λ same. subst (λ (x : Wants). Wanting x h buf) further wanting)
 
 pub write-steps : (h : Held) (size : ℕ) (wants : Wants) (buf out out′ : List ℕ) (r : Machine) → GoesOn h wants buf out r out′ → StepsFrom (Stage.Write size wants) h Event.Done buf out r out′
 unfolding StepsFrom GoesOn
 write-steps h size wants buf out out′ r on g w before some o f ten roomy =
     let q : Writing g h w size wants buf out = subst (λ (l : List ℕ). Writing g h w size wants l out) (sym (f .1)) o in
-    on g (withWritten w (take size out)) roomy (record { goes = q .handing .goes; tallies = q .handing .tallies }) (q .wanting)
+    let k = on g (withWritten w (take size out)) roomy (record { goes = q .handing .goes; within = q .handing .within; tallies = q .handing .tallies }) (q .wanting) in
+    (k .0, k .1, λ well. k .2 (well .same))
 
 -- ---- a refusal's line was written
 
 pub answer-steps : (h : Held) (size : ℕ) (refusal : Refusal) (e : Event) (buf out : List ℕ) → StepsFrom (Stage.Answer size refusal) h e buf out (movedBy e h (Stage.Stop (Word.Refused refusal)) Why.Unwritten) out
 unfolding StepsFrom
-answer-steps h size refusal Event.Done buf out g w before some o f ten roomy = ((ap (λ (l : List ℕ). l ++ take size out) (o .unwritten) ∙ o .line, o .carried), omega arith)
+answer-steps h size refusal Event.Done buf out g w before some o f ten roomy = ((ap (λ (l : List ℕ). l ++ take size out) (o .unwritten) ∙ o .line, o .carried), omega arith, λ well. refl)
 answer-steps h size refusal (Event.Count n) buf out g w before some o f ten roomy = absurd (f .0)
 answer-steps h size refusal (Event.Read n) buf out g w before some o f ten roomy = absurd (f .0)
 answer-steps h size refusal Event.End buf out g w before some o f ten roomy = absurd (f .0)
-answer-steps h size refusal Event.Failed buf out g w before some o f ten roomy = stop-steps (Stage.Answer size refusal) h Event.Failed buf out out Why.Unwritten _ refl g w before some o f ten roomy
+answer-steps h size refusal Event.Failed buf out g w before some o f ten roomy = stop-steps (Stage.Answer size refusal) h Event.Failed Event.Failed buf out out Why.Unwritten _ refl refl refl g w before some o f ten roomy

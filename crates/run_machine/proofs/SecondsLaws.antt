@@ -7,6 +7,7 @@ use native.Mathlib.Omega.{arith}
 use native.Mathlib.Decide.{decLe}
 use lib.ListN.{length, take, drop, length-take, take-append-drop}
 use lib.Seq.{take-all, take-append-seam}
+use borrow.Author.Tests.{leb-false}
 use Rattle.rules.specs.declared.answers.Outcome.{Outcome}
 use Rattle.rules.specs.declared.answers.Refusal.{Refusal}
 use Rattle.rules.specs.declared.run.Inputs.{Inputs}
@@ -17,7 +18,7 @@ use Rattle.rules.specs.Run.{secondsAsked, printed}
 use Rattle.rules.proofs.Tests.{never}
 use Rattle.rows.specs.AnswerLine.{refusedLine}
 use Rattle.rows.specs.Written.{TextPut}
-use Rattle.rows.proofs.Room.{put-means}
+use Rattle.rows.proofs.Room.{put-means, none-means}
 use Rattle.intake.specs.Stations.{stationWith}
 use Rattle.intake.specs.Tally.{noBytes, talliedOf}
 use Rattle.intake.proofs.SecondsAsked.{long-asked}
@@ -66,11 +67,15 @@ line-put line lent answer size left is t =
 pub refusal-put : (h : Held) (refusal : Refusal) (out : List ℕ) (answer : Outcome) (size : ℕ) (out′ : List ℕ) → answer ≡ Outcome.Row size → TextPut (refusedLine refusal) out answer out′
     → Answers h refusal out (record { stage = Stage.Answer size refusal; held = h }) out′
 unfolding Answers
-refusal-put h refusal out answer size out′ told put g w buf roomy is none = (record { line = line-put (refusedLine refusal) out answer size out′ told put ∙ sym is; carried = is; unwritten = none }, omega arith)
+refusal-put h refusal out answer size out′ told put g w buf roomy is none = (record { line = line-put (refusedLine refusal) out answer size out′ told put ∙ sym is; carried = is; unwritten = none }, omega arith, λ well. refl)
 
-pub refusal-stop : (h : Held) (refusal : Refusal) (out out′ : List ℕ) (why : Why) (r : Machine) → r ≡ stopping h why → Answers h refusal out r out′
+-- a buffer of 256 bytes has room for it
+pub refusal-stop : (h : Held) (refusal : Refusal) (out : List ℕ) (answer : Outcome) (refused-so : Refusal) (out′ : List ℕ) (why : Why) (r : Machine) → answer ≡ Outcome.Refused refused-so → TextPut (refusedLine refusal) out answer out′
+    → r ≡ stopping h why → Answers h refusal out r out′
 unfolding Answers
-refusal-stop h refusal out out′ why r stop g w buf roomy is none = none-stop g h w buf out′ 2 why r stop none (omega arith)
+refusal-stop h refusal out answer refused-so out′ why r told put stop g w buf roomy is none =
+    none-stop g h w buf out′ 2 _ why r stop none (omega arith)
+    (λ well. let small = leb-false 256 (length out) (none-means (refusedLine refusal) out answer refused-so out′ told put .0) in omega (arith, small, roomy))
 
 -- ---- the run that the files and the seconds asked come to
 
@@ -100,7 +105,7 @@ refusal-begun h asked out out′ v s refusal r is b e answers g w buf roomy a sa
     let st = starts g h w s a (begun-as g h w asked v s a same is b) in
     let all : text g ≡ refusedLine refusal = sym (st .text-is) ∙ ap (λ (p : Phase). textOf p (s .course .station) (s .course .run) (st .inputs)) e in
     let k = answers g w buf roomy all (a .unwritten) in
-    (k .0, let less = k .1 in omega (arith, less))
+    (k .0, let less = k .1 in omega (arith, less), k .2)
 
 -- a run that is not refused was accepted by both files
 record Accepts (a : Answer Station) (v : Answer Span) (q : Answer ℕ) (s : Simulation) : Type 0 where
@@ -169,13 +174,33 @@ run-begun h asked out out′ v s is b e g w buf roomy a same =
         unwritten = a .unwritten;
       },
       omega (arith, few),
+      λ well. refl,
     )
 
-pub begun-stops : (h : Held) (asked out out′ : List ℕ) (why : Why) (r : Machine) → r ≡ stopping h why → Begun h asked out r out′
+-- a run begins with its heading or is refused
+abbrev pub isBegin : Phase → Bool
+isBegin (Phase.Refusal refusal) = true
+isBegin Phase.Heading = true
+isBegin Phase.Seconds = false
+isBegin Phase.SetHeading = false
+isBegin (Phase.SetLine place) = false
+isBegin Phase.Over = false
+isBegin Phase.Broken = false
+
+begins-so : (a : Answer Station) (v : Answer Span) (q : Answer ℕ) (s : Simulation) → BegunAs a v q s → isBegin (s .phase) ≡ true
+begins-so (refused n k) v q s b = ap isBegin (b .phase-is)
+begins-so (accepted st) (refused n k) q s b = ap isBegin (b .phase-is)
+begins-so (accepted st) (accepted span) (refused n k) s b = ap isBegin (b .phase-is)
+begins-so (accepted st) (accepted span) (accepted n) s b = ap isBegin (b .phase-is)
+
+pub begun-stops : (h : Held) (asked out out′ : List ℕ) (v : Checked) (s : Simulation) (why : Why) (r : Machine) → BegunWith h asked v s → isBegin (s .phase) ≡ false → r ≡ stopping h why → Begun h asked out r out′
 unfolding Begun
-begun-stops h asked out out′ why r is g w buf roomy a same = none-stop g h w buf out′ _ why r is (a .unwritten) (omega arith)
+begun-stops h asked out out′ v s why r b e is g w buf roomy a same =
+    none-stop g h w buf out′ _ _ why r is (a .unwritten) (omega arith)
+    (λ well. never (sym e ∙ begins-so (stationWith (h .judging .held .file) []) (checkedOf v) (secondsAsked asked) s b))
 
 pub asked-steps : (h : Held) (n : ℕ) (buf asked out out′ : List ℕ) (r : Machine) → asked ≡ take n buf → Begun h asked out r out′ → StepsFrom Stage.AskSeconds h (Event.Read n) buf out r out′
 unfolding StepsFrom Begun
 asked-steps h n buf asked out out′ r is begun g w before some a f ten roomy =
-    begun g w buf roomy a (ap secondsAsked (is ∙ f .0 .1) ∙ asked-cut (w .arguments 3) (length buf) ten ∙ ap secondsAsked (a .asked))
+    let k = begun g w buf roomy a (ap secondsAsked (is ∙ f .0 .1) ∙ asked-cut (w .arguments 3) (length buf) ten ∙ ap secondsAsked (a .asked)) in
+    (k .0, k .1, λ well. k .2 tt)

@@ -22,8 +22,10 @@ use Rattle.simulation.specs.Turns.{isBeforeSets}
 use Rattle.exchange.specs.declared.action.Why.{Why}
 use Rattle.exchange.specs.declared.action.Word.{Word}
 use Rattle.exchange.specs.declared.event.Event.{Event}
-use Rattle.exchange.specs.World.{World, leftOf, Fits, FitsDone, after, afterRead, afterRewind, afterWrite}
+use Rattle.exchange.specs.Existing.{isFailed}
+use Rattle.exchange.specs.World.{World, leftOf, bufferEnd, Fits, FitsDone, after, afterRead, afterRewind, afterWrite}
 use Rattle.exchange.specs.Events.{Begins}
+use Rattle.exchange.proofs.Expected.{isExpected, unexpected, read-within, argument-within}
 use Rattle.judging.specs.Stages.{judgeAsks}
 use Rattle.judging.proofs.FrameLaws.{judging-writes-nothing, read-frame, rewind-frame}
 use Rattle.run_machine.specs.declared.state.Stage.{Stage}
@@ -32,7 +34,7 @@ use Rattle.run_machine.specs.declared.state.Machine.{Machine}
 use Rattle.run_machine.specs.Stages.{asks, asksOf, stopping}
 use Rattle.run_machine.specs.Given.{Given, filesOf, text, Agreed, Goes, OfSome, SetsToCome, Sets}
 use Rattle.run_machine.specs.Holds.{Running, Handing, toRead, Tallies, Writing, Answering, Unfinished, Stopped, HoldsAt, Holds, stepsAt, stepsLeft}
-use Rattle.run_machine.specs.Steps.{Nearer, Steps, StepsFrom}
+use Rattle.run_machine.specs.Steps.{Well, Nearer, Steps, StepsFrom}
 
 -- ---- a text begins so
 
@@ -153,7 +155,7 @@ after-write g Event.End size some w out f u = absurd f
 stops : (stage : Stage) (g : Given) (h : Held) (w : World) (before buf out : List ℕ) (e : Event) (some : ℕ) → HoldsAt stage g h w before out → Fits (asks stage (h .judging .stage)) e w before buf
     → Unfinished g (after (asks stage (h .judging .stage)) e some w out .written)
 stops Stage.Counting g h w before buf out e some o f = none-written g (w .written) (o .unwritten)
-stops Stage.Telling g h w before buf out e some o f = none-written g (w .written) (o .unwritten)
+stops Stage.Telling g h w before buf out e some o f = none-written g (w .written) (o .0 .unwritten)
 stops Stage.Judging g h w before buf out e some o f =
     none-written g (after (judgeAsks (h .judging .stage)) e some w out .written) (judging-writes-nothing (h .judging .stage) e some w out ∙ o .unwritten)
 stops Stage.AskSeconds g h w before buf out e some o f = none-written g (w .written) (o .unwritten)
@@ -178,31 +180,52 @@ some-left (Stage.Write size Wants.Nothing) g h e w before buf f = omega arith
 some-left (Stage.Answer size refusal) g h e w before buf f = omega arith
 some-left (Stage.Stop word) g h e w before buf f = absurd f
 
-pub stop-steps : (stage : Stage) (h : Held) (e : Event) (buf out out′ : List ℕ) (why : Why) (r : Machine) → r ≡ stopping h why → StepsFrom stage h e buf out r out′
+-- a program may stop for a reason
+pub stop-because : (stage : Stage) (h : Held) (e : Event) (buf out out′ : List ℕ) (why : Why) (r : Machine) → r ≡ stopping h why
+    → ((w : World) (before : List ℕ) → Fits (asks stage (h .judging .stage)) e w before buf → isFailed e ≡ false → ⊥) → StepsFrom stage h e buf out r out′
 unfolding StepsFrom
-stop-steps stage h e buf out out′ why r is g w before some o f ten roomy =
-    subst (λ (m : Machine). Nearer g m (after (asks stage (h .judging .stage)) e some w out) buf out′ (stepsAt stage g h w)) (sym is)
-    (stops stage g h w before buf out e some o f, some-left stage g h e w before buf f)
+stop-because stage h e buf out out′ why r is reason g w before some o f ten roomy =
+    subst (λ (m : Machine). Nearer g m (after (asks stage (h .judging .stage)) e some w out) buf out′ (stepsAt stage g h w) (Well g w e buf out)) (sym is)
+    (stops stage g h w before buf out e some o f, some-left stage g h e w before buf f, λ well. absurd (reason w before f (well .event)))
+
+-- an event that is no answer to what was asked for is one, and a failure is
+pub stop-steps : (stage : Stage) (h : Held) (e e′ : Event) (buf out out′ : List ℕ) (why : Why) (r : Machine) → r ≡ stopping h why → e ≡ e′ → isExpected (asks stage (h .judging .stage)) e′ ≡ false
+    → StepsFrom stage h e buf out r out′
+stop-steps stage h e e′ buf out out′ why r is same un = stop-because stage h e buf out out′ why r is (λ w before f ok. unexpected (asks stage (h .judging .stage)) e e′ w before buf same un f ok)
+
+-- and so is a read of more bytes than the buffer holds
+pub short-read : (h : Held) (e : Event) (n : ℕ) (buf out out′ : List ℕ) (why : Why) (r : Machine) → r ≡ stopping h why → e ≡ Event.Read n → length buf < n → StepsFrom Stage.SecondPass h e buf out r out′
+short-read h e n buf out out′ why r is same less =
+    stop-because Stage.SecondPass h e buf out out′ why r is (λ w before f ok. let within = read-within 2 0 bufferEnd n e w before buf same f in omega (arith, within, less))
+
+pub short-argument : (h : Held) (e : Event) (n : ℕ) (buf out out′ : List ℕ) (why : Why) (r : Machine) → r ≡ stopping h why → e ≡ Event.Read n → length buf < n → StepsFrom Stage.AskSeconds h e buf out r out′
+short-argument h e n buf out out′ why r is same less =
+    stop-because Stage.AskSeconds h e buf out out′ why r is (λ w before f ok. let within = argument-within 3 n e w before buf same f in omega (arith, within, less))
 
 -- the same of buffers that are too small
-pub small-steps : (m : Machine) (e : Event) (buf out out′ : List ℕ) (why : Why) (r : Machine) → r ≡ stopping (m .held) why → Steps m e buf out r out′
+pub small-steps : (m : Machine) (e : Event) (buf out : List ℕ) (why : Why) (r : Machine) → (10 ≤ length buf → 256 ≤ length out → ⊥) → r ≡ stopping (m .held) why → Steps m e buf out r out
 unfolding Steps
-small-steps m e buf out out′ why r is g w before some o f =
-    subst (λ (m′ : Machine). Nearer g m′ (after (asksOf m) e some w out) buf out′ (stepsLeft g m w)) (sym is)
-    (stops (m .stage) g (m .held) w before buf out e some o f, some-left (m .stage) g (m .held) e w before buf f)
+small-steps m e buf out why r small is = (
+  refl,
+  λ g w before some o f. subst (λ (m′ : Machine). Nearer g m′ (after (asksOf m) e some w out) buf out (stepsLeft g m w) (Well g w e buf out)) (sym is)
+      (stops (m .stage) g (m .held) w before buf out e some o f, some-left (m .stage) g (m .held) e w before buf f, λ well. absurd (small (well .reads) (well .room))),
+)
 
 -- and of buffers that are large enough
-pub large-steps : (m : Machine) (e : Event) (buf out out′ : List ℕ) (r : Machine) → 10 ≤ length buf → 256 ≤ length out → StepsFrom (m .stage) (m .held) e buf out r out′ → Steps m e buf out r out′
+pub large-steps : (m : Machine) (e : Event) (buf out out′ : List ℕ) (r : Machine) → 10 ≤ length buf → 256 ≤ length out → length out′ ≡ length out → StepsFrom (m .stage) (m .held) e buf out r out′
+    → Steps m e buf out r out′
 unfolding Steps StepsFrom
-large-steps m e buf out out′ r ten roomy k g w before some o f = k g w before some o f ten roomy
+large-steps m e buf out out′ r ten roomy size k = (size, λ g w before some o f. k g w before some o f ten roomy)
 
 -- ---- inside a step
 
-pub nearer-stop : (g : Given) (h : Held) (w : World) (buf out : List ℕ) (most : ℕ) (why : Why) (r : Machine) → r ≡ stopping h why → Unfinished g (w .written) → 0 < most → Nearer g r w buf out most
-nearer-stop g h w buf out most why r is u some = subst (λ (m : Machine). Nearer g m w buf out most) (sym is) (u, some)
+pub nearer-stop : (g : Given) (h : Held) (w : World) (buf out : List ℕ) (most : ℕ) (well : Type 0) (why : Why) (r : Machine) → r ≡ stopping h why → Unfinished g (w .written) → 0 < most → (well → ⊥)
+    → Nearer g r w buf out most well
+nearer-stop g h w buf out most well why r is u some reason = subst (λ (m : Machine). Nearer g m w buf out most well) (sym is) (u, some, λ ok. absurd (reason ok))
 
-pub none-stop : (g : Given) (h : Held) (w : World) (buf out : List ℕ) (most : ℕ) (why : Why) (r : Machine) → r ≡ stopping h why → w .written ≡ [] → 0 < most → Nearer g r w buf out most
-none-stop g h w buf out most why r is none some = nearer-stop g h w buf out most why r is (none-written g (w .written) none) some
+pub none-stop : (g : Given) (h : Held) (w : World) (buf out : List ℕ) (most : ℕ) (well : Type 0) (why : Why) (r : Machine) → r ≡ stopping h why → w .written ≡ [] → 0 < most → (well → ⊥)
+    → Nearer g r w buf out most well
+none-stop g h w buf out most well why r is none some reason = nearer-stop g h w buf out most well why r is (none-written g (w .written) none) some reason
 
 -- ---- from an event or a stage that is known
 
@@ -221,7 +244,7 @@ by-word (Word.Nothing why) g w k = k
 
 pub so-far : (stage : Stage) (g : Given) (h : Held) (w : World) (buf out : List ℕ) → HoldsAt stage g h w buf out → Unfinished g (w .written)
 so-far Stage.Counting g h w buf out o = none-written g (w .written) (o .unwritten)
-so-far Stage.Telling g h w buf out o = none-written g (w .written) (o .unwritten)
+so-far Stage.Telling g h w buf out o = none-written g (w .written) (o .0 .unwritten)
 so-far Stage.Judging g h w buf out o = none-written g (w .written) (o .unwritten)
 so-far Stage.AskSeconds g h w buf out o = none-written g (w .written) (o .unwritten)
 so-far Stage.ToSecondPass g h w buf out o = none-written g (w .written) (o .unwritten)

@@ -35,6 +35,11 @@ filesOf g = record { station = g .station; samples = g .samples; later = g .agai
 abbrev pub text : Given → List ℕ
 text g = printed (g .station) (g .samples) (g .asked)
 
+-- THE CALL: with STATION, SAMPLES and SECONDS, or with these and the word `-3` that bin/run adds
+pub data RightCall (count : ℕ) (word : List ℕ) : Type 0 where
+  plain : count ≡ 4 → RightCall count word
+  told : count ≡ 5 → word ≡ 45 ∷ 51 ∷ [] → RightCall count word
+
 -- both passes came to the same tally
 abbrev pub Agreed : Given → Type 0
 Agreed g = talliedOf noBytes (g .again) ≡ talliedOf noBytes (g .samples)

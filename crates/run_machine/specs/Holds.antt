@@ -16,7 +16,9 @@ use Rattle.simulation.specs.declared.state.Wants.{Wants}
 use Rattle.simulation.specs.Turns.{finished, weight}
 use Rattle.exchange.specs.declared.action.Word.{Word}
 use Rattle.exchange.specs.World.{World, leftOf, againOf}
+use Rattle.exchange.specs.Existing.{givesUp}
 use Rattle.exchange.specs.Events.{Begins}
+use Rattle.judging.specs.Stages.{judgeAsks}
 use Rattle.judging.specs.Holds.{Judged, JudgeHolds, judgeSteps}
 use Rattle.run_machine.specs.declared.state.Stage.{Stage}
 use Rattle.run_machine.specs.declared.state.Held.{Held}
@@ -25,6 +27,8 @@ use Rattle.run_machine.specs.Given.{Given, filesOf, text, Agreed, Goes, 
 
 -- until both files are judged
 pub record Reading (g : Given) (h : Held) (w : World) : Type 0 where
+  -- there is still something to read
+  pub ready : givesUp (judgeAsks (h .judging .stage)) ≡ false
   pub files : JudgeHolds (filesOf g) (h .judging) w
   pub second : h .second ≡ noBytes
   pub asked : w .arguments 3 ≡ g .asked
@@ -51,6 +55,8 @@ pub record Running (g : Given) (h : Held) (w : World) (left : List ℕ) : Type 0
   pub rows : OfSome (h .simulation) (w .written)
   pub first : h .judging .held .tally ≡ talliedOf noBytes (g .samples)
   pub second : talliedOf (h .second) left ≡ talliedOf noBytes (g .again)
+  -- with what is left, no byte is counted twice
+  pub counted : g .again ≡ g .samples → h .second .count + length left ≡ length (g .again)
 
 -- what is left of the sample file after the chunk
 abbrev pub afterChunk : Bool → List ℕ → List ℕ
@@ -60,7 +66,7 @@ afterChunk false left = left
 -- the end was told only after the tallies agreed
 abbrev pub Tallies : Bool → Given → Tally → Tally → List ℕ → Simulation → List ℕ → Type 0
 Tallies true g first second left s done = Agreed g
-Tallies false g first second left s done = (first ≡ talliedOf noBytes (g .samples)) × (talliedOf second left ≡ talliedOf noBytes (g .again)) × OfSome s done
+Tallies false g first second left s done = (first ≡ talliedOf noBytes (g .samples)) × (talliedOf second left ≡ talliedOf noBytes (g .again)) × OfSome s done × (g .again ≡ g .samples → second .count + length left ≡ length (g .again))
 
 -- what the run has still to read: the rest of the chunk at the start of the buffer, and then of the file
 abbrev pub toRead : Held → World → List ℕ → List ℕ
@@ -69,11 +75,13 @@ toRead h w buf = drop (h .at) (take (h .chunk) buf) ++ afterChunk (h .ended) (le
 -- before a call of the run, where so much is written
 pub record Handing (g : Given) (h : Held) (w : World) (buf done : List ℕ) : Type 0 where
   pub goes : g .again ≡ g .samples → Goes g (h .simulation) (toRead h w buf) done
+  -- the chunk lies within the buffer
+  pub within : h .chunk ≤ length buf
   pub tallies : Tallies (h .ended) g (h .judging .held .tally) (h .second) (leftOf w 2) (h .simulation) done
 
 -- what the run wants after the bytes that are to be written
 abbrev pub Wanting : Wants → Held → List ℕ → Type 0
-Wanting Wants.Further h buf = Unit {0}
+Wanting Wants.Further h buf = ⊥
 Wanting Wants.Input h buf = (drop (h .at) (take (h .chunk) buf) ≡ []) × (h .ended ≡ false)
 Wanting Wants.Room h buf = Unit {0}
 Wanting Wants.Nothing h buf = finished (h .simulation .phase) ≡ true
@@ -100,7 +108,7 @@ Stopped (Word.Nothing why) g w = Unfinished g (w .written)
 
 abbrev pub HoldsAt : Stage → Given → Held → World → List ℕ → List ℕ → Type 0
 HoldsAt Stage.Counting g h w buf out = Reading g h w
-HoldsAt Stage.Telling g h w buf out = Reading g h w
+HoldsAt Stage.Telling g h w buf out = Reading g h w × (w .count ≡ 5)
 HoldsAt Stage.Judging g h w buf out = Reading g h w
 HoldsAt Stage.AskSeconds g h w buf out = Asking g h w
 HoldsAt Stage.ToSecondPass g h w buf out = Returning g h w

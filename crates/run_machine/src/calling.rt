@@ -1,6 +1,6 @@
 // How the program was called, and the reading of both files that follows.
 ghost use Rattle.run_machine.specs.declared.state.Stage.{Stage};
-ghost use Rattle.run_machine.specs.Steps.{Calls, StepsFrom};
+ghost use Rattle.run_machine.specs.Steps.{CallsWith, Tells, Names, StepsFrom};
 use crate::state::Held;
 use crate::state::Machine;
 use crate::state::Stage;
@@ -16,7 +16,7 @@ const PLAIN: usize = 4;
 const WITH_WORD: usize = 5;
 
 fn called(held: Held, count: usize) -> Machine
-    ensures { λ r. ⌜ Calls Stage.Counting held r ⌝ }
+    ensures { λ r. ⌜ CallsWith held count r ⌝ }
 {
     if count == PLAIN {
         return Machine {
@@ -46,7 +46,9 @@ pub(crate) fn counted(held: Held, event: Event, buf: &[u8], out: &mut [u8]) -> M
 }
 
 // Whether the word is `-3`: the descriptor that bin/run reads the end from.
-fn is_told(word: &[u8], size: usize) -> bool {
+fn is_told(word: &[u8], size: usize) -> bool
+    ensures { λ r. ⌜ Tells (now (word .entry)) size r ⌝ }
+{
     if word.len() < 2 {
         return false;
     }
@@ -54,7 +56,7 @@ fn is_told(word: &[u8], size: usize) -> bool {
 }
 
 fn named(held: Held, told: bool) -> Machine
-    ensures { λ r. ⌜ Calls Stage.Telling held r ⌝ }
+    ensures { λ r. ⌜ Names held told r ⌝ }
 {
     if !told {
         return stopped(held, Why::WrongCall);

@@ -31,7 +31,7 @@ same-length c = search needs
 
 -- src/answer.rt:25:9
 returns : tie.Need-returns
-returns c = accept-stops (c .before .before .before .before .before .before .before .before .args .held) _ _ _ (c .stopped .ensures)
+returns c = accept-stops (c .before .before .before .before .before .before .before .before .args .held) (now (c .before .before .before .before .before .before .before .before .args .out)) _ _ _ (c .before .enum-told .given .1) _ _ (c .stopped .ensures) (c .before .before .before .before .before .put-accepted .ensures)
 
 -- src/answer.rt:20:1
 same-length-2 : tie.Need-same-length-2

@@ -35,7 +35,7 @@ same-length c = search needs
 
 -- src/answer.rt:83:1
 returns : tie.Need-returns
-returns c = accepts-station (c .before .before .before .before .before .before .before .before .before .before .args .held) _ _ (c .before .before .before .before .before .before .station-of .result .verdict) (c .before .before .before .before .before .before .station-of .ensures .0) (c .before .before .before .before .enum-told .given .1) (c .before .before .answer-samples .ensures)
+returns c = accepts-station (c .before .before .before .before .before .before .before .before .before .before .args .held) _ _ _ (c .before .before .before .before .before .before .station-of .result .verdict) (c .before .before .before .before .before .before .station-of .ensures .0) (c .before .before .before .before .enum-told .given .1) (c .before .before .answer-samples .ensures)
 
 -- src/answer.rt:83:1
 same-length-2 : tie.Need-same-length-2
@@ -43,7 +43,7 @@ same-length-2 c = search needs
 
 -- src/answer.rt:83:1
 returns-2 : tie.Need-returns-2
-returns-2 c = refuses-station (c .before .before .before .before .before .before .before .before .before .before .before .args .held) _ _ (c .before .before .before .before .before .before .before .station-of .result .verdict) (c .before .before .before .before .before .before .before .station-of .ensures .0) _ (c .before .before .before .before .before .verdict .given .1) (c .before .before .refuse .ensures)
+returns-2 c = refuses-station (c .before .before .before .before .before .before .before .before .before .before .before .args .held) _ _ _ (c .before .before .before .before .before .before .before .station-of .result .verdict) (c .before .before .before .before .before .before .before .station-of .ensures .0) _ (c .before .before .before .before .before .verdict .given .1) (c .before .before .refuse .ensures)
 
 pub answer-spec : {M : Type 1} → statement M
 answer-spec =

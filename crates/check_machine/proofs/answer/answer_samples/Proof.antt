@@ -40,7 +40,7 @@ same-length c = search needs
 
 -- src/answer.rt:67:1
 returns : tie.Need-returns
-returns c = accepts-samples (c .before .before .before .before .before .before .before .before .before .before .args .held) _ _ (c .before .before .before .before .before .before .finish .result) (c .before .before .before .before .before .before .finish .ensures) _ (c .before .before .before .before .enum-told .given .1) (c .before .before .accept .ensures)
+returns c = accepts-samples (c .before .before .before .before .before .before .before .before .before .before .args .held) _ _ _ (c .before .before .before .before .before .before .finish .result) (c .before .before .before .before .before .before .finish .ensures) _ (c .before .before .before .before .enum-told .given .1) (c .before .before .accept .ensures)
 
 -- src/answer.rt:67:1
 same-length-2 : tie.Need-same-length-2
@@ -48,7 +48,7 @@ same-length-2 c = search needs
 
 -- src/answer.rt:67:1
 returns-2 : tie.Need-returns-2
-returns-2 c = refuses-samples (c .before .before .before .before .before .before .before .before .before .before .before .before .args .held) _ _ (c .before .before .before .before .before .before .before .before .finish .result) (c .before .before .before .before .before .before .before .before .finish .ensures) _ (c .before .before .before .before .before .before .checked .given .1) (c .before .before .refuse-line .ensures)
+returns-2 c = refuses-samples (c .before .before .before .before .before .before .before .before .before .before .before .before .args .held) _ _ _ (c .before .before .before .before .before .before .before .before .finish .result) (c .before .before .before .before .before .before .before .before .finish .ensures) _ (c .before .before .before .before .before .before .checked .given .1) (c .before .before .refuse-line .ensures)
 
 pub answer-samples-spec : {M : Type 1} → statement M
 answer-samples-spec =

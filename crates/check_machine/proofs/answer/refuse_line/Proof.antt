@@ -21,7 +21,7 @@ same-length c = search needs
 
 -- src/answer.rt:51:9
 returns : tie.Need-returns
-returns c = without-line (c .before .before .before .before .before .before .args .refusal) _ _ (c .before .before .refuse .ensures)
+returns c = without-line (c .before .before .before .before .before .before .args .refusal) _ _ _ (c .before .before .refuse .ensures)
 
 -- src/answer.rt:53:9
 put-refused-requires : tie.Need-put-refused-requires
@@ -45,7 +45,7 @@ same-length-2 c = search needs
 
 -- src/answer.rt:55:9
 returns-2 : tie.Need-returns-2
-returns-2 c = refuse-line-stops (c .before .before .before .before .before .before .before .before .before .args .held) _ _ _ (c .stopped .ensures) _
+returns-2 c = refuse-line-stops (c .before .before .before .before .before .before .before .before .before .args .held) (now (c .before .before .before .before .before .before .before .before .before .args .out)) _ _ _ (c .before .enum-told .given .1) _ _ (c .stopped .ensures) (c .before .before .before .before .before .before .before .before .before .args .refusal) (c .before .before .before .before .before .put-refused .ensures)
 
 -- src/answer.rt:57:26
 sub-no-line : tie.Need-sub-no-line

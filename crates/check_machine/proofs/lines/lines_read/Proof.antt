@@ -1,5 +1,5 @@
 -- `lines_read` meets its contract. Assumes nothing.
-use Rattle.check_machine.proofs.StopLaws.{stop-steps, at-event}
+use Rattle.check_machine.proofs.StopLaws.{stop-steps, short-lines, at-event}
 use Rattle.check_machine.proofs.StepLaws.{search-steps, search-ends}
 use Rattle.check_machine.specs.declared.state.Stage.{Stage}
 use lib.ListN.{length-take}
@@ -25,7 +25,7 @@ stopped-requires c κs = search needs
 
 -- src/lines.rt:67:17
 returns : tie.Need-returns
-returns c = λ out. stop-steps (Stage.Lines (c .before .before .before .before .before .before .args .refusal)) (c .before .before .before .before .before .before .args .held) (c .before .before .before .before .before .before .args .held) (c .before .before .before .before .before .before .args .event) (now (c .before .before .before .before .before .before .args .buf)) out out _ _ (c .stopped .ensures)
+returns c = λ out. short-lines (c .before .before .before .before .before .before .args .refusal) (c .before .before .before .before .before .before .args .held) (c .before .before .before .before .before .before .args .event) _ (now (c .before .before .before .before .before .before .args .buf)) out _ _ (c .stopped .ensures) (c .before .before .before .event .given .1) (c .before .if1 .taken)
 
 -- src/lines.rt:69:37
 slice-aggregate-lines-in : tie.Need-slice-aggregate-lines-in
@@ -73,11 +73,11 @@ returns-3 c = λ out. search-ends (c .before .before .before .before .args .refu
 
 -- src/lines.rt:61:1
 returns-4 : tie.Need-returns-4
-returns-4 c = λ out. stop-steps (Stage.Lines (c .before .before .before .before .args .refusal)) (c .before .before .before .before .args .held) (c .before .before .before .before .args .held) (c .before .before .before .before .args .event) (now (c .before .before .before .before .args .buf)) out out _ _ (c .stopped2 .ensures)
+returns-4 c = λ out. stop-steps (Stage.Lines (c .before .before .before .before .args .refusal)) (c .before .before .before .before .args .held) (c .before .before .before .before .args .held) (c .before .before .before .before .args .event) _ (now (c .before .before .before .before .args .buf)) out out _ _ (c .stopped2 .ensures) (c .before .enum-told2 .given .1) refl
 
 -- src/lines.rt:61:1
 returns-5 : tie.Need-returns-5
-returns-5 c = λ out. stop-steps (Stage.Lines (c .before .before .before .before .args .refusal)) (c .before .before .before .before .args .held) (c .before .before .before .before .args .held) (c .before .before .before .before .args .event) (now (c .before .before .before .before .args .buf)) out out _ _ (c .stopped3 .ensures)
+returns-5 c = λ out. stop-steps (Stage.Lines (c .before .before .before .before .args .refusal)) (c .before .before .before .before .args .held) (c .before .before .before .before .args .held) (c .before .before .before .before .args .event) _ (now (c .before .before .before .before .args .buf)) out out _ _ (c .stopped3 .ensures) (c .before .enum-told3 .given .1) refl
 
 -- src/lines.rt:61:1
 returns-6 : tie.Need-returns-6

@@ -1,11 +1,12 @@
 -- THE STEP meets its contract. Assumes nothing.
-use Rattle.check_machine.proofs.StopLaws.{stop-steps, at-stage}
+use Rattle.check_machine.proofs.StopLaws.{stop-steps, small-steps, large-steps, at-stage}
 use Rattle.check_machine.proofs.StepLaws.{answer-steps, line-answer-steps, to-lines-steps}
 use Rattle.check_machine.specs.Holds.{StepsFrom}
 use Rattle.check_machine.specs.declared.state.Machine.{Machine}
 use Rattle.check_machine.specs.declared.state.Stage.{Stage}
 use denote.Ref.{now}
-use mathlib.Core.Path.{sym, subst}
+use mathlib.Core.Path.{refl, sym, subst}
+use native.Mathlib.Omega.{arith}
 use borrow.Author.Needs.{needs}
 use Rattle.check_machine.proofs.next.next.Statement.{statement}
 use Rattle.check_machine.proofs.next.next.Tie as tie
@@ -23,7 +24,7 @@ stopped-requires c κs = search needs
 
 -- src/next.rt:39:9
 returns : tie.Need-returns
-returns c = stop-steps (c .before .before .before .before .before .args .machine .stage) (c .before .before .before .before .before .args .machine .held) (c .before .before .before .before .before .args .machine .held) (c .before .before .before .before .before .args .event) (now (c .before .before .before .before .before .args .buf)) (now (c .before .before .before .before .before .args .out)) _ _ _ (c .stopped .ensures)
+returns c = small-steps (c .before .before .before .before .before .args .machine) (c .before .before .before .before .before .args .event) (now (c .before .before .before .before .before .args .buf)) (now (c .before .before .before .before .before .args .out)) _ _ (λ some roomy. omega (arith, some, roomy)) (c .stopped .ensures)
 
 -- src/next.rt:42:9
 stopped-requires-2 : tie.Need-stopped-requires-2
@@ -31,7 +32,7 @@ stopped-requires-2 c κs = search needs
 
 -- src/next.rt:42:9
 returns-2 : tie.Need-returns-2
-returns-2 c = stop-steps (c .before .before .before .before .before .before .args .machine .stage) (c .before .before .before .before .before .before .args .machine .held) (c .before .before .before .before .before .before .args .machine .held) (c .before .before .before .before .before .before .args .event) (now (c .before .before .before .before .before .before .args .buf)) (now (c .before .before .before .before .before .before .args .out)) _ _ _ (c .stopped2 .ensures)
+returns-2 c = small-steps (c .before .before .before .before .before .before .args .machine) (c .before .before .before .before .before .before .args .event) (now (c .before .before .before .before .before .before .args .buf)) (now (c .before .before .before .before .before .before .args .out)) _ _ (λ some roomy. omega (arith, some, roomy)) (c .stopped2 .ensures)
 
 -- src/next.rt:46:28
 enum-told : tie.Need-enum-told
@@ -91,7 +92,7 @@ stopped-requires-3 c κs = search needs
 
 -- src/next.rt:33:1
 returns-3 : tie.Need-returns-3
-returns-3 c = at-stage (c .before .before .before .before .before .before .before .before .args .machine .stage) (Stage.Counting) (c .before .before .before .before .before .before .before .before .args .machine .held) (c .before .before .before .before .before .before .before .before .args .event) (now (c .before .before .before .before .before .before .before .before .args .buf)) (now (c .before .before .before .before .before .before .before .before .args .out)) _ _ (c .before .enum-told .given .1) (c .counted .ensures (now (c .before .before .before .before .before .before .before .before .args .buf)) (now (c .before .before .before .before .before .before .before .before .args .out)))
+returns-3 c = large-steps (c .before .before .before .before .before .before .before .before .args .machine) (c .before .before .before .before .before .before .before .before .args .event) (now (c .before .before .before .before .before .before .before .before .args .buf)) (now (c .before .before .before .before .before .before .before .before .args .out)) _ _ refl (at-stage (c .before .before .before .before .before .before .before .before .args .machine .stage) (Stage.Counting) (c .before .before .before .before .before .before .before .before .args .machine .held) (c .before .before .before .before .before .before .before .before .args .event) (now (c .before .before .before .before .before .before .before .before .args .buf)) (now (c .before .before .before .before .before .before .before .before .args .out)) _ _ (c .before .enum-told .given .1) (c .counted .ensures (now (c .before .before .before .before .before .before .before .before .args .buf)) (now (c .before .before .before .before .before .before .before .before .args .out))))
 
 -- src/next.rt:33:1
 same-length : tie.Need-same-length
@@ -99,27 +100,27 @@ same-length c = search needs
 
 -- src/next.rt:33:1
 returns-4 : tie.Need-returns-4
-returns-4 c = at-stage (c .before .before .before .before .before .before .before .before .before .before .before .args .machine .stage) (Stage.Judging) (c .before .before .before .before .before .before .before .before .before .before .before .args .machine .held) (c .before .before .before .before .before .before .before .before .before .before .before .args .event) (now (c .before .before .before .before .before .before .before .before .before .before .before .args .buf)) (now (c .before .before .before .before .before .before .before .before .before .before .before .args .out)) _ _ (c .before .before .before .before .enum-told2 .given .1) (c .before .before .judged .ensures)
+returns-4 c = large-steps (c .before .before .before .before .before .before .before .before .before .before .before .args .machine) (c .before .before .before .before .before .before .before .before .before .before .before .args .event) (now (c .before .before .before .before .before .before .before .before .before .before .before .args .buf)) (now (c .before .before .before .before .before .before .before .before .before .before .before .args .out)) _ _ (same-length c) (at-stage (c .before .before .before .before .before .before .before .before .before .before .before .args .machine .stage) (Stage.Judging) (c .before .before .before .before .before .before .before .before .before .before .before .args .machine .held) (c .before .before .before .before .before .before .before .before .before .before .before .args .event) (now (c .before .before .before .before .before .before .before .before .before .before .before .args .buf)) (now (c .before .before .before .before .before .before .before .before .before .before .before .args .out)) _ _ (c .before .before .before .before .enum-told2 .given .1) (c .before .before .judged .ensures))
 
 -- src/next.rt:33:1
 returns-5 : tie.Need-returns-5
-returns-5 c = at-stage (c .before .before .before .before .before .before .before .before .before .args .machine .stage) (_) (c .before .before .before .before .before .before .before .before .before .args .machine .held) (c .before .before .before .before .before .before .before .before .before .args .event) (now (c .before .before .before .before .before .before .before .before .before .args .buf)) (now (c .before .before .before .before .before .before .before .before .before .args .out)) _ _ (c .before .before .stage .given .1) (subst (λ (m : Machine). StepsFrom (Stage.Answer (c .before .before .stage .given .0 .0) (c .before .before .stage .given .0 .1 .0)) (c .before .before .before .before .before .before .before .before .before .args .machine .held) (c .before .before .before .before .before .before .before .before .before .args .event) (now (c .before .before .before .before .before .before .before .before .before .args .buf)) (now (c .before .before .before .before .before .before .before .before .before .args .out)) m (now (c .before .before .before .before .before .before .before .before .before .args .out))) (sym (c .moved .ensures)) (answer-steps (c .before .before .stage .given .0 .0) (c .before .before .stage .given .0 .1 .0) (c .before .before .before .before .before .before .before .before .before .args .machine .held) (c .before .before .before .before .before .before .before .before .before .args .event) (now (c .before .before .before .before .before .before .before .before .before .args .buf)) (now (c .before .before .before .before .before .before .before .before .before .args .out))))
+returns-5 c = large-steps (c .before .before .before .before .before .before .before .before .before .args .machine) (c .before .before .before .before .before .before .before .before .before .args .event) (now (c .before .before .before .before .before .before .before .before .before .args .buf)) (now (c .before .before .before .before .before .before .before .before .before .args .out)) _ _ refl (at-stage (c .before .before .before .before .before .before .before .before .before .args .machine .stage) (_) (c .before .before .before .before .before .before .before .before .before .args .machine .held) (c .before .before .before .before .before .before .before .before .before .args .event) (now (c .before .before .before .before .before .before .before .before .before .args .buf)) (now (c .before .before .before .before .before .before .before .before .before .args .out)) _ _ (c .before .before .stage .given .1) (subst (λ (m : Machine). StepsFrom (Stage.Answer (c .before .before .stage .given .0 .0) (c .before .before .stage .given .0 .1 .0)) (c .before .before .before .before .before .before .before .before .before .args .machine .held) (c .before .before .before .before .before .before .before .before .before .args .event) (now (c .before .before .before .before .before .before .before .before .before .args .buf)) (now (c .before .before .before .before .before .before .before .before .before .args .out)) m (now (c .before .before .before .before .before .before .before .before .before .args .out))) (sym (c .moved .ensures)) (answer-steps (c .before .before .stage .given .0 .0) (c .before .before .stage .given .0 .1 .0) (c .before .before .before .before .before .before .before .before .before .args .machine .held) (c .before .before .before .before .before .before .before .before .before .args .event) (now (c .before .before .before .before .before .before .before .before .before .args .buf)) (now (c .before .before .before .before .before .before .before .before .before .args .out)))))
 
 -- src/next.rt:33:1
 returns-6 : tie.Need-returns-6
-returns-6 c = at-stage (c .before .before .before .before .before .before .before .before .before .args .machine .stage) (_) (c .before .before .before .before .before .before .before .before .before .args .machine .held) (c .before .before .before .before .before .before .before .before .before .args .event) (now (c .before .before .before .before .before .before .before .before .before .args .buf)) (now (c .before .before .before .before .before .before .before .before .before .args .out)) _ _ (c .before .before .stage2 .given .1) (subst (λ (m : Machine). StepsFrom (Stage.LineAnswer (c .before .before .stage2 .given .0 .0) (c .before .before .stage2 .given .0 .1 .0)) (c .before .before .before .before .before .before .before .before .before .args .machine .held) (c .before .before .before .before .before .before .before .before .before .args .event) (now (c .before .before .before .before .before .before .before .before .before .args .buf)) (now (c .before .before .before .before .before .before .before .before .before .args .out)) m (now (c .before .before .before .before .before .before .before .before .before .args .out))) (sym (c .moved2 .ensures)) (line-answer-steps (c .before .before .stage2 .given .0 .0) (c .before .before .stage2 .given .0 .1 .0) (c .before .before .before .before .before .before .before .before .before .args .machine .held) (c .before .before .before .before .before .before .before .before .before .args .event) (now (c .before .before .before .before .before .before .before .before .before .args .buf)) (now (c .before .before .before .before .before .before .before .before .before .args .out))))
+returns-6 c = large-steps (c .before .before .before .before .before .before .before .before .before .args .machine) (c .before .before .before .before .before .before .before .before .before .args .event) (now (c .before .before .before .before .before .before .before .before .before .args .buf)) (now (c .before .before .before .before .before .before .before .before .before .args .out)) _ _ refl (at-stage (c .before .before .before .before .before .before .before .before .before .args .machine .stage) (_) (c .before .before .before .before .before .before .before .before .before .args .machine .held) (c .before .before .before .before .before .before .before .before .before .args .event) (now (c .before .before .before .before .before .before .before .before .before .args .buf)) (now (c .before .before .before .before .before .before .before .before .before .args .out)) _ _ (c .before .before .stage2 .given .1) (subst (λ (m : Machine). StepsFrom (Stage.LineAnswer (c .before .before .stage2 .given .0 .0) (c .before .before .stage2 .given .0 .1 .0)) (c .before .before .before .before .before .before .before .before .before .args .machine .held) (c .before .before .before .before .before .before .before .before .before .args .event) (now (c .before .before .before .before .before .before .before .before .before .args .buf)) (now (c .before .before .before .before .before .before .before .before .before .args .out)) m (now (c .before .before .before .before .before .before .before .before .before .args .out))) (sym (c .moved2 .ensures)) (line-answer-steps (c .before .before .stage2 .given .0 .0) (c .before .before .stage2 .given .0 .1 .0) (c .before .before .before .before .before .before .before .before .before .args .machine .held) (c .before .before .before .before .before .before .before .before .before .args .event) (now (c .before .before .before .before .before .before .before .before .before .args .buf)) (now (c .before .before .before .before .before .before .before .before .before .args .out)))))
 
 -- src/next.rt:33:1
 returns-7 : tie.Need-returns-7
-returns-7 c = at-stage (c .before .before .before .before .before .before .before .before .before .args .machine .stage) (_) (c .before .before .before .before .before .before .before .before .before .args .machine .held) (c .before .before .before .before .before .before .before .before .before .args .event) (now (c .before .before .before .before .before .before .before .before .before .args .buf)) (now (c .before .before .before .before .before .before .before .before .before .args .out)) _ _ (c .before .before .stage3 .given .1) (subst (λ (m : Machine). StepsFrom (Stage.ToLines (c .before .before .stage3 .given .0 .0)) (c .before .before .before .before .before .before .before .before .before .args .machine .held) (c .before .before .before .before .before .before .before .before .before .args .event) (now (c .before .before .before .before .before .before .before .before .before .args .buf)) (now (c .before .before .before .before .before .before .before .before .before .args .out)) m (now (c .before .before .before .before .before .before .before .before .before .args .out))) (sym (c .moved3 .ensures)) (to-lines-steps (c .before .before .stage3 .given .0 .0) (c .before .before .before .before .before .before .before .before .before .args .machine .held) (c .before .before .before .before .before .before .before .before .before .args .event) (now (c .before .before .before .before .before .before .before .before .before .args .buf)) (now (c .before .before .before .before .before .before .before .before .before .args .out))))
+returns-7 c = large-steps (c .before .before .before .before .before .before .before .before .before .args .machine) (c .before .before .before .before .before .before .before .before .before .args .event) (now (c .before .before .before .before .before .before .before .before .before .args .buf)) (now (c .before .before .before .before .before .before .before .before .before .args .out)) _ _ refl (at-stage (c .before .before .before .before .before .before .before .before .before .args .machine .stage) (_) (c .before .before .before .before .before .before .before .before .before .args .machine .held) (c .before .before .before .before .before .before .before .before .before .args .event) (now (c .before .before .before .before .before .before .before .before .before .args .buf)) (now (c .before .before .before .before .before .before .before .before .before .args .out)) _ _ (c .before .before .stage3 .given .1) (subst (λ (m : Machine). StepsFrom (Stage.ToLines (c .before .before .stage3 .given .0 .0)) (c .before .before .before .before .before .before .before .before .before .args .machine .held) (c .before .before .before .before .before .before .before .before .before .args .event) (now (c .before .before .before .before .before .before .before .before .before .args .buf)) (now (c .before .before .before .before .before .before .before .before .before .args .out)) m (now (c .before .before .before .before .before .before .before .before .before .args .out))) (sym (c .moved3 .ensures)) (to-lines-steps (c .before .before .stage3 .given .0 .0) (c .before .before .before .before .before .before .before .before .before .args .machine .held) (c .before .before .before .before .before .before .before .before .before .args .event) (now (c .before .before .before .before .before .before .before .before .before .args .buf)) (now (c .before .before .before .before .before .before .before .before .before .args .out)))))
 
 -- src/next.rt:33:1
 returns-8 : tie.Need-returns-8
-returns-8 c = at-stage (c .before .before .before .before .before .before .before .before .before .args .machine .stage) (_) (c .before .before .before .before .before .before .before .before .before .args .machine .held) (c .before .before .before .before .before .before .before .before .before .args .event) (now (c .before .before .before .before .before .before .before .before .before .args .buf)) (now (c .before .before .before .before .before .before .before .before .before .args .out)) _ _ (c .before .before .stage4 .given .1) (c .lines-read .ensures (now (c .before .before .before .before .before .before .before .before .before .args .out)))
+returns-8 c = large-steps (c .before .before .before .before .before .before .before .before .before .args .machine) (c .before .before .before .before .before .before .before .before .before .args .event) (now (c .before .before .before .before .before .before .before .before .before .args .buf)) (now (c .before .before .before .before .before .before .before .before .before .args .out)) _ _ refl (at-stage (c .before .before .before .before .before .before .before .before .before .args .machine .stage) (_) (c .before .before .before .before .before .before .before .before .before .args .machine .held) (c .before .before .before .before .before .before .before .before .before .args .event) (now (c .before .before .before .before .before .before .before .before .before .args .buf)) (now (c .before .before .before .before .before .before .before .before .before .args .out)) _ _ (c .before .before .stage4 .given .1) (c .lines-read .ensures (now (c .before .before .before .before .before .before .before .before .before .args .out))))
 
 -- src/next.rt:33:1
 returns-9 : tie.Need-returns-9
-returns-9 c = stop-steps (c .before .before .before .before .before .before .before .before .args .machine .stage) (c .before .before .before .before .before .before .before .before .args .machine .held) (c .before .before .before .before .before .before .before .before .args .machine .held) (c .before .before .before .before .before .before .before .before .args .event) (now (c .before .before .before .before .before .before .before .before .args .buf)) (now (c .before .before .before .before .before .before .before .before .args .out)) _ _ _ (c .stopped3 .ensures)
+returns-9 c = large-steps (c .before .before .before .before .before .before .before .before .args .machine) (c .before .before .before .before .before .before .before .before .args .event) (now (c .before .before .before .before .before .before .before .before .args .buf)) (now (c .before .before .before .before .before .before .before .before .args .out)) _ _ refl (at-stage (c .before .before .before .before .before .before .before .before .args .machine .stage) _ (c .before .before .before .before .before .before .before .before .args .machine .held) (c .before .before .before .before .before .before .before .before .args .event) (now (c .before .before .before .before .before .before .before .before .args .buf)) (now (c .before .before .before .before .before .before .before .before .args .out)) _ _ (c .before .enum-told3 .given .1) (stop-steps _ (c .before .before .before .before .before .before .before .before .args .machine .held) (c .before .before .before .before .before .before .before .before .args .machine .held) (c .before .before .before .before .before .before .before .before .args .event) (c .before .before .before .before .before .before .before .before .args .event) (now (c .before .before .before .before .before .before .before .before .args .buf)) (now (c .before .before .before .before .before .before .before .before .args .out)) (now (c .before .before .before .before .before .before .before .before .args .out)) _ _ (c .stopped3 .ensures) refl refl))
 
 pub next-spec : {M : Type 1} → statement M
 next-spec =

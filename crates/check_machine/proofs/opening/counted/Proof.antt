@@ -1,7 +1,8 @@
 -- `counted` meets its contract. Assumes nothing.
-use Rattle.check_machine.proofs.StopLaws.{stop-steps, at-event}
+use Rattle.check_machine.proofs.StopLaws.{stop-steps, wrong-count, at-event}
 use Rattle.check_machine.proofs.StepLaws.{count-right}
 use Rattle.check_machine.specs.declared.state.Stage.{Stage}
+use mathlib.Core.Path.{refl}
 use borrow.Author.Needs.{needs}
 use Rattle.check_machine.proofs.opening.counted.Statement.{statement}
 use Rattle.check_machine.proofs.opening.counted.Tie as tie
@@ -55,23 +56,23 @@ stopped-requires-5 c κs = search needs
 
 -- src/opening.rt:19:1
 returns-2 : tie.Need-returns-2
-returns-2 c = λ buf out. stop-steps Stage.Counting (c .before .before .before .before .before .args .held) (c .before .before .before .before .before .args .held) (c .before .before .before .before .before .args .event) buf out out _ _ (c .stopped .ensures)
+returns-2 c = λ buf out. wrong-count (c .before .before .before .before .before .args .held) (c .before .before .before .before .before .args .event) _ buf out _ _ (c .stopped .ensures) (c .before .before .before .event .given .1) (c .before .if1 .left)
 
 -- src/opening.rt:19:1
 returns-3 : tie.Need-returns-3
-returns-3 c = λ buf out. stop-steps Stage.Counting (c .before .before .before .args .held) (c .before .before .before .args .held) (c .before .before .before .args .event) buf out out _ _ (c .stopped2 .ensures)
+returns-3 c = λ buf out. stop-steps Stage.Counting (c .before .before .before .args .held) (c .before .before .before .args .held) (c .before .before .before .args .event) _ buf out out _ _ (c .stopped2 .ensures) (c .before .enum-told .given .1) refl
 
 -- src/opening.rt:19:1
 returns-4 : tie.Need-returns-4
-returns-4 c = λ buf out. stop-steps Stage.Counting (c .before .before .before .args .held) (c .before .before .before .args .held) (c .before .before .before .args .event) buf out out _ _ (c .stopped3 .ensures)
+returns-4 c = λ buf out. stop-steps Stage.Counting (c .before .before .before .args .held) (c .before .before .before .args .held) (c .before .before .before .args .event) _ buf out out _ _ (c .stopped3 .ensures) (c .before .enum-told2 .given .1) refl
 
 -- src/opening.rt:19:1
 returns-5 : tie.Need-returns-5
-returns-5 c = λ buf out. stop-steps Stage.Counting (c .before .before .before .args .held) (c .before .before .before .args .held) (c .before .before .before .args .event) buf out out _ _ (c .stopped4 .ensures)
+returns-5 c = λ buf out. stop-steps Stage.Counting (c .before .before .before .args .held) (c .before .before .before .args .held) (c .before .before .before .args .event) _ buf out out _ _ (c .stopped4 .ensures) (c .before .enum-told3 .given .1) refl
 
 -- src/opening.rt:19:1
 returns-6 : tie.Need-returns-6
-returns-6 c = λ buf out. stop-steps Stage.Counting (c .before .before .before .args .held) (c .before .before .before .args .held) (c .before .before .before .args .event) buf out out _ _ (c .stopped5 .ensures)
+returns-6 c = λ buf out. stop-steps Stage.Counting (c .before .before .before .args .held) (c .before .before .before .args .held) (c .before .before .before .args .event) _ buf out out _ _ (c .stopped5 .ensures) (c .before .enum-told4 .given .1) refl
 
 pub counted-spec : {M : Type 1} → statement M
 counted-spec =

@@ -1,11 +1,13 @@
 -- `judged` meets its contract. Assumes nothing.
-use Rattle.check_machine.proofs.StopLaws.{stop-steps}
-use Rattle.check_machine.proofs.StepLaws.{reads-on, judged-steps}
+use Rattle.exchange.specs.Existing.{givesUp}
+use Rattle.judging.specs.declared.state.JudgeStage.{JudgeStage}
+use Rattle.judging.specs.Stages.{judgeAsks}
+use Rattle.check_machine.proofs.StepLaws.{reads-on, judged-steps, unread-steps}
 use Rattle.check_machine.specs.Holds.{StepsFrom}
 use Rattle.check_machine.specs.declared.state.Machine.{Machine}
 use Rattle.check_machine.specs.declared.state.Stage.{Stage}
 use denote.Ref.{now}
-use mathlib.Core.Path.{sym, subst}
+use mathlib.Core.Path.{sym, ap, subst}
 use borrow.Author.Needs.{needs}
 use Rattle.check_machine.proofs.opening.judged.Statement.{statement}
 use Rattle.check_machine.proofs.opening.judged.Tie as tie
@@ -78,23 +80,23 @@ stopped-requires c κs = search needs
 
 -- src/opening.rt:51:1
 returns : tie.Need-returns
-returns c = subst (λ (m : Machine). StepsFrom Stage.Judging (c .before .before .before .before .before .before .args .held) (c .before .before .before .before .before .before .args .event) (now (c .before .before .before .before .before .before .args .buf)) (now (c .before .before .before .before .before .before .args .out)) m (now (c .before .before .before .before .before .before .args .out))) (sym (c .reading-on .ensures)) (reads-on (c .before .before .before .before .before .before .args .held) (c .before .before .before .before .before .before .args .event) (now (c .before .before .before .before .before .before .args .buf)) (now (c .before .before .before .before .before .before .args .out)) (c .before .before .before .judge .result) (c .before .before .before .judge .ensures))
+returns c = subst (λ (m : Machine). StepsFrom Stage.Judging (c .before .before .before .before .before .before .args .held) (c .before .before .before .before .before .before .args .event) (now (c .before .before .before .before .before .before .args .buf)) (now (c .before .before .before .before .before .before .args .out)) m (now (c .before .before .before .before .before .before .args .out))) (sym (c .reading-on .ensures)) (reads-on (c .before .before .before .before .before .before .args .held) (c .before .before .before .before .before .before .args .event) (now (c .before .before .before .before .before .before .args .buf)) (now (c .before .before .before .before .before .before .args .out)) (c .before .before .before .judge .result) (c .before .before .before .judge .ensures) (ap (λ (s : JudgeStage). givesUp (judgeAsks s)) (c .before .enum-told .given .1)))
 
 -- src/opening.rt:51:1
 returns-2 : tie.Need-returns-2
-returns-2 c = subst (λ (m : Machine). StepsFrom Stage.Judging (c .before .before .before .before .before .before .args .held) (c .before .before .before .before .before .before .args .event) (now (c .before .before .before .before .before .before .args .buf)) (now (c .before .before .before .before .before .before .args .out)) m (now (c .before .before .before .before .before .before .args .out))) (sym (c .reading-on2 .ensures)) (reads-on (c .before .before .before .before .before .before .args .held) (c .before .before .before .before .before .before .args .event) (now (c .before .before .before .before .before .before .args .buf)) (now (c .before .before .before .before .before .before .args .out)) (c .before .before .before .judge .result) (c .before .before .before .judge .ensures))
+returns-2 c = subst (λ (m : Machine). StepsFrom Stage.Judging (c .before .before .before .before .before .before .args .held) (c .before .before .before .before .before .before .args .event) (now (c .before .before .before .before .before .before .args .buf)) (now (c .before .before .before .before .before .before .args .out)) m (now (c .before .before .before .before .before .before .args .out))) (sym (c .reading-on2 .ensures)) (reads-on (c .before .before .before .before .before .before .args .held) (c .before .before .before .before .before .before .args .event) (now (c .before .before .before .before .before .before .args .buf)) (now (c .before .before .before .before .before .before .args .out)) (c .before .before .before .judge .result) (c .before .before .before .judge .ensures) (ap (λ (s : JudgeStage). givesUp (judgeAsks s)) (c .before .enum-told2 .given .1)))
 
 -- src/opening.rt:51:1
 returns-3 : tie.Need-returns-3
-returns-3 c = subst (λ (m : Machine). StepsFrom Stage.Judging (c .before .before .before .before .before .before .args .held) (c .before .before .before .before .before .before .args .event) (now (c .before .before .before .before .before .before .args .buf)) (now (c .before .before .before .before .before .before .args .out)) m (now (c .before .before .before .before .before .before .args .out))) (sym (c .reading-on3 .ensures)) (reads-on (c .before .before .before .before .before .before .args .held) (c .before .before .before .before .before .before .args .event) (now (c .before .before .before .before .before .before .args .buf)) (now (c .before .before .before .before .before .before .args .out)) (c .before .before .before .judge .result) (c .before .before .before .judge .ensures))
+returns-3 c = subst (λ (m : Machine). StepsFrom Stage.Judging (c .before .before .before .before .before .before .args .held) (c .before .before .before .before .before .before .args .event) (now (c .before .before .before .before .before .before .args .buf)) (now (c .before .before .before .before .before .before .args .out)) m (now (c .before .before .before .before .before .before .args .out))) (sym (c .reading-on3 .ensures)) (reads-on (c .before .before .before .before .before .before .args .held) (c .before .before .before .before .before .before .args .event) (now (c .before .before .before .before .before .before .args .buf)) (now (c .before .before .before .before .before .before .args .out)) (c .before .before .before .judge .result) (c .before .before .before .judge .ensures) (ap (λ (s : JudgeStage). givesUp (judgeAsks s)) (c .before .enum-told3 .given .1)))
 
 -- src/opening.rt:51:1
 returns-4 : tie.Need-returns-4
-returns-4 c = subst (λ (m : Machine). StepsFrom Stage.Judging (c .before .before .before .before .before .before .args .held) (c .before .before .before .before .before .before .args .event) (now (c .before .before .before .before .before .before .args .buf)) (now (c .before .before .before .before .before .before .args .out)) m (now (c .before .before .before .before .before .before .args .out))) (sym (c .reading-on4 .ensures)) (reads-on (c .before .before .before .before .before .before .args .held) (c .before .before .before .before .before .before .args .event) (now (c .before .before .before .before .before .before .args .buf)) (now (c .before .before .before .before .before .before .args .out)) (c .before .before .before .judge .result) (c .before .before .before .judge .ensures))
+returns-4 c = subst (λ (m : Machine). StepsFrom Stage.Judging (c .before .before .before .before .before .before .args .held) (c .before .before .before .before .before .before .args .event) (now (c .before .before .before .before .before .before .args .buf)) (now (c .before .before .before .before .before .before .args .out)) m (now (c .before .before .before .before .before .before .args .out))) (sym (c .reading-on4 .ensures)) (reads-on (c .before .before .before .before .before .before .args .held) (c .before .before .before .before .before .before .args .event) (now (c .before .before .before .before .before .before .args .buf)) (now (c .before .before .before .before .before .before .args .out)) (c .before .before .before .judge .result) (c .before .before .before .judge .ensures) (ap (λ (s : JudgeStage). givesUp (judgeAsks s)) (c .before .enum-told4 .given .1)))
 
 -- src/opening.rt:51:1
 returns-5 : tie.Need-returns-5
-returns-5 c = subst (λ (m : Machine). StepsFrom Stage.Judging (c .before .before .before .before .before .before .args .held) (c .before .before .before .before .before .before .args .event) (now (c .before .before .before .before .before .before .args .buf)) (now (c .before .before .before .before .before .before .args .out)) m (now (c .before .before .before .before .before .before .args .out))) (sym (c .reading-on5 .ensures)) (reads-on (c .before .before .before .before .before .before .args .held) (c .before .before .before .before .before .before .args .event) (now (c .before .before .before .before .before .before .args .buf)) (now (c .before .before .before .before .before .before .args .out)) (c .before .before .before .judge .result) (c .before .before .before .judge .ensures))
+returns-5 c = subst (λ (m : Machine). StepsFrom Stage.Judging (c .before .before .before .before .before .before .args .held) (c .before .before .before .before .before .before .args .event) (now (c .before .before .before .before .before .before .args .buf)) (now (c .before .before .before .before .before .before .args .out)) m (now (c .before .before .before .before .before .before .args .out))) (sym (c .reading-on5 .ensures)) (reads-on (c .before .before .before .before .before .before .args .held) (c .before .before .before .before .before .before .args .event) (now (c .before .before .before .before .before .before .args .buf)) (now (c .before .before .before .before .before .before .args .out)) (c .before .before .before .judge .result) (c .before .before .before .judge .ensures) (ap (λ (s : JudgeStage). givesUp (judgeAsks s)) (c .before .enum-told5 .given .1)))
 
 -- src/opening.rt:51:1
 same-length : tie.Need-same-length
@@ -106,7 +108,7 @@ returns-6 c = judged-steps (c .before .before .before .before .before .before .b
 
 -- src/opening.rt:51:1
 returns-7 : tie.Need-returns-7
-returns-7 c = stop-steps Stage.Judging (c .before .before .before .before .before .before .before .args .held) _ (c .before .before .before .before .before .before .before .args .event) (now (c .before .before .before .before .before .before .before .args .buf)) (now (c .before .before .before .before .before .before .before .args .out)) (now (c .before .before .before .before .before .before .before .args .out)) _ _ (c .stopped .ensures)
+returns-7 c = unread-steps (c .before .before .before .before .before .before .before .args .held) (c .before .before .before .before .before .before .before .args .event) (now (c .before .before .before .before .before .before .before .args .buf)) (now (c .before .before .before .before .before .before .before .args .out)) (c .before .before .before .before .judge .result) (c .before .before .before .before .judge .ensures) _ _ _ (c .before .before .reading .given .1) (c .stopped .ensures)
 
 pub judged-spec : {M : Type 1} → statement M
 judged-spec =

@@ -96,11 +96,11 @@ returns-5 c = at-stage _ _ (c .before .before .before .before .before .args .jud
 
 -- src/judge.rt:48:1
 returns-6 : tie.Need-returns-6
-returns-6 c = stop-steps _ (c .before .before .before .before .before .args .judging .held) (c .before .before .before .before .before .args .event) (now (c .before .before .before .before .before .args .buf)) _ _ (c .stopped .ensures)
+returns-6 c = at-stage _ _ (c .before .before .before .before .before .args .judging .held) (c .before .before .before .before .before .args .event) (now (c .before .before .before .before .before .args .buf)) _ (c .before .enum-told6 .given .1) (stop-steps _ (c .before .before .before .before .before .args .judging .held) (c .before .before .before .before .before .args .event) (c .before .before .before .before .before .args .event) (now (c .before .before .before .before .before .args .buf)) _ _ (c .stopped .ensures) refl refl)
 
 -- src/judge.rt:48:1
 returns-7 : tie.Need-returns-7
-returns-7 c = stop-steps _ (c .before .before .before .before .before .args .judging .held) (c .before .before .before .before .before .args .event) (now (c .before .before .before .before .before .args .buf)) _ _ (c .stopped2 .ensures)
+returns-7 c = at-stage _ _ (c .before .before .before .before .before .args .judging .held) (c .before .before .before .before .before .args .event) (now (c .before .before .before .before .before .args .buf)) _ (c .before .enum-told7 .given .1) (stop-steps _ (c .before .before .before .before .before .args .judging .held) (c .before .before .before .before .before .args .event) (c .before .before .before .before .before .args .event) (now (c .before .before .before .before .before .args .buf)) _ _ (c .stopped2 .ensures) refl refl)
 
 pub judge-spec : {M : Type 1} → statement M
 judge-spec =

@@ -1,7 +1,7 @@
 -- `samples_read` meets its contract. Assumes nothing.
 use Rattle.judging.proofs.SampleLaws.{samples-read-steps, samples-end-steps}
 use Rattle.judging.specs.declared.state.JudgeStage.{JudgeStage}
-use Rattle.judging.proofs.StopLaws.{stop-steps, at-event, at-stage}
+use Rattle.judging.proofs.StopLaws.{stop-steps, short-stop, at-event}
 use lib.ListN.{length-take}
 use native.Mathlib.Omega.{arith}
 use denote.Ref.{now}
@@ -24,7 +24,7 @@ stopped-requires c κs = search needs
 
 -- src/reading.rt:116:17
 returns : tie.Need-returns
-returns c = stop-steps JudgeStage.ReadSamples (c .before .before .before .before .before .before .args .held) (c .before .before .before .before .before .before .args .event) (now (c .before .before .before .before .before .before .args .buf)) _ _ (c .stopped .ensures)
+returns c = short-stop JudgeStage.ReadSamples 2 (c .before .before .before .before .before .before .args .held) (c .before .before .before .before .before .before .args .event) _ (now (c .before .before .before .before .before .before .args .buf)) _ _ refl (c .stopped .ensures) (c .before .before .before .event .given .1) (c .before .if1 .taken)
 
 -- src/reading.rt:118:33
 slice-aggregate-samples-chunk : tie.Need-slice-aggregate-samples-chunk
@@ -72,15 +72,15 @@ returns-3 c = at-event JudgeStage.ReadSamples (c .before .before .before .args .
 
 -- src/reading.rt:110:1
 returns-4 : tie.Need-returns-4
-returns-4 c = stop-steps JudgeStage.ReadSamples (c .before .before .before .before .args .held) (c .before .before .before .before .args .event) (now (c .before .before .before .before .args .buf)) _ _ (c .stopped2 .ensures)
+returns-4 c = stop-steps JudgeStage.ReadSamples (c .before .before .before .before .args .held) (c .before .before .before .before .args .event) _ (now (c .before .before .before .before .args .buf)) _ _ (c .stopped2 .ensures) (c .before .enum-told2 .given .1) refl
 
 -- src/reading.rt:110:1
 returns-5 : tie.Need-returns-5
-returns-5 c = stop-steps JudgeStage.ReadSamples (c .before .before .before .before .args .held) (c .before .before .before .before .args .event) (now (c .before .before .before .before .args .buf)) _ _ (c .stopped3 .ensures)
+returns-5 c = stop-steps JudgeStage.ReadSamples (c .before .before .before .before .args .held) (c .before .before .before .before .args .event) _ (now (c .before .before .before .before .args .buf)) _ _ (c .stopped3 .ensures) (c .before .enum-told3 .given .1) refl
 
 -- src/reading.rt:110:1
 returns-6 : tie.Need-returns-6
-returns-6 c = stop-steps JudgeStage.ReadSamples (c .before .before .before .before .args .held) (c .before .before .before .before .args .event) (now (c .before .before .before .before .args .buf)) _ _ (c .stopped4 .ensures)
+returns-6 c = stop-steps JudgeStage.ReadSamples (c .before .before .before .before .args .held) (c .before .before .before .before .args .event) _ (now (c .before .before .before .before .args .buf)) _ _ (c .stopped4 .ensures) (c .before .enum-told4 .given .1) refl
 
 pub samples-read-spec : {M : Type 1} → statement M
 samples-read-spec =

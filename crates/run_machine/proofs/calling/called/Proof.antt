@@ -12,11 +12,11 @@ use Rattle.run_machine.proofs.state.stopped.Reads as stopped-reads
 
 -- src/calling.rt:22:9
 returns : tie.Need-returns
-returns c = plain-call (c .before .args .held)
+returns c = plain-call (c .before .args .held) (c .before .args .count)
 
 -- src/calling.rt:28:9
 returns-2 : tie.Need-returns-2
-returns-2 c = word-call (c .before .before .args .held)
+returns-2 c = word-call (c .before .before .args .held) (c .before .before .args .count) (c .if2 .taken)
 
 -- src/calling.rt:33:5
 stopped-requires : tie.Need-stopped-requires
@@ -24,7 +24,7 @@ stopped-requires c κs = search needs
 
 -- src/calling.rt:18:1
 returns-3 : tie.Need-returns-3
-returns-3 c = wrong-call Stage.Counting (c .before .before .before .args .held) _ _ (λ g w. omega arith) (c .stopped .ensures)
+returns-3 c = wrong-call (c .before .before .before .args .held) (c .before .before .before .args .count) _ _ (c .before .before .if1 .left) (c .before .if2 .left) (c .stopped .ensures)
 
 pub called-spec : {M : Type 1} → statement M
 called-spec = tie.close (tie.spec returns returns-2 stopped-requires returns-3)

@@ -1,6 +1,9 @@
 -- `judged` meets its contract. Assumes nothing.
 use Rattle.run_machine.proofs.CallingLaws.{read-on-steps, judged-steps, unread-steps}
 use Rattle.run_machine.specs.Steps.{StepsFrom}
+use Rattle.exchange.specs.Existing.{givesUp}
+use Rattle.judging.specs.declared.state.JudgeStage.{JudgeStage}
+use Rattle.judging.specs.Stages.{judgeAsks}
 use Rattle.run_machine.specs.declared.state.Machine.{Machine}
 use Rattle.run_machine.specs.declared.state.Stage.{Stage}
 use Rattle.run_machine.proofs.StopLaws.{stop-steps, at-event, at-stage}
@@ -77,27 +80,27 @@ returns c = judged-steps (c .before .before .before .before .before .args .held)
 
 -- src/calling.rt:83:1
 returns-2 : tie.Need-returns-2
-returns-2 c = unread-steps (c .before .before .before .before .before .before .before .args .held) (c .before .before .before .before .before .before .before .args .event) (now (c .before .before .before .before .before .before .before .args .buf)) (now (c .before .before .before .before .before .before .before .args .out)) (now (c .before .before .before .before .before .before .before .args .out)) (c .before .before .before .before .judge .result) _ _ (c .stopped .ensures)
+returns-2 c = unread-steps (c .before .before .before .before .before .before .before .args .held) (c .before .before .before .before .before .before .before .args .event) (now (c .before .before .before .before .before .before .before .args .buf)) (now (c .before .before .before .before .before .before .before .args .out)) (now (c .before .before .before .before .before .before .before .args .out)) (c .before .before .before .before .judge .result) (c .before .before .before .before .judge .ensures) _ _ _ (c .before .before .stage .given .1) (c .stopped .ensures)
 
 -- src/calling.rt:83:1
 returns-3 : tie.Need-returns-3
-returns-3 c = subst (λ (m : Machine). StepsFrom Stage.Judging (c .before .before .before .before .before .before .args .held) (c .before .before .before .before .before .before .args .event) (now (c .before .before .before .before .before .before .args .buf)) (now (c .before .before .before .before .before .before .args .out)) m (now (c .before .before .before .before .before .before .args .out))) (sym (c .reading .ensures)) (read-on-steps (c .before .before .before .before .before .before .args .held) (c .before .before .before .before .before .before .args .event) (now (c .before .before .before .before .before .before .args .buf)) (now (c .before .before .before .before .before .before .args .out)) (now (c .before .before .before .before .before .before .args .out)) (c .before .before .before .judge .result) (c .before .before .before .judge .ensures))
+returns-3 c = subst (λ (m : Machine). StepsFrom Stage.Judging (c .before .before .before .before .before .before .args .held) (c .before .before .before .before .before .before .args .event) (now (c .before .before .before .before .before .before .args .buf)) (now (c .before .before .before .before .before .before .args .out)) m (now (c .before .before .before .before .before .before .args .out))) (sym (c .reading .ensures)) (read-on-steps (c .before .before .before .before .before .before .args .held) (c .before .before .before .before .before .before .args .event) (now (c .before .before .before .before .before .before .args .buf)) (now (c .before .before .before .before .before .before .args .out)) (now (c .before .before .before .before .before .before .args .out)) (c .before .before .before .judge .result) (c .before .before .before .judge .ensures) (ap (λ (s : JudgeStage). givesUp (judgeAsks s)) (c .before .enum-told2 .given .1)))
 
 -- src/calling.rt:83:1
 returns-4 : tie.Need-returns-4
-returns-4 c = subst (λ (m : Machine). StepsFrom Stage.Judging (c .before .before .before .before .before .before .args .held) (c .before .before .before .before .before .before .args .event) (now (c .before .before .before .before .before .before .args .buf)) (now (c .before .before .before .before .before .before .args .out)) m (now (c .before .before .before .before .before .before .args .out))) (sym (c .reading2 .ensures)) (read-on-steps (c .before .before .before .before .before .before .args .held) (c .before .before .before .before .before .before .args .event) (now (c .before .before .before .before .before .before .args .buf)) (now (c .before .before .before .before .before .before .args .out)) (now (c .before .before .before .before .before .before .args .out)) (c .before .before .before .judge .result) (c .before .before .before .judge .ensures))
+returns-4 c = subst (λ (m : Machine). StepsFrom Stage.Judging (c .before .before .before .before .before .before .args .held) (c .before .before .before .before .before .before .args .event) (now (c .before .before .before .before .before .before .args .buf)) (now (c .before .before .before .before .before .before .args .out)) m (now (c .before .before .before .before .before .before .args .out))) (sym (c .reading2 .ensures)) (read-on-steps (c .before .before .before .before .before .before .args .held) (c .before .before .before .before .before .before .args .event) (now (c .before .before .before .before .before .before .args .buf)) (now (c .before .before .before .before .before .before .args .out)) (now (c .before .before .before .before .before .before .args .out)) (c .before .before .before .judge .result) (c .before .before .before .judge .ensures) (ap (λ (s : JudgeStage). givesUp (judgeAsks s)) (c .before .enum-told3 .given .1)))
 
 -- src/calling.rt:83:1
 returns-5 : tie.Need-returns-5
-returns-5 c = subst (λ (m : Machine). StepsFrom Stage.Judging (c .before .before .before .before .before .before .args .held) (c .before .before .before .before .before .before .args .event) (now (c .before .before .before .before .before .before .args .buf)) (now (c .before .before .before .before .before .before .args .out)) m (now (c .before .before .before .before .before .before .args .out))) (sym (c .reading3 .ensures)) (read-on-steps (c .before .before .before .before .before .before .args .held) (c .before .before .before .before .before .before .args .event) (now (c .before .before .before .before .before .before .args .buf)) (now (c .before .before .before .before .before .before .args .out)) (now (c .before .before .before .before .before .before .args .out)) (c .before .before .before .judge .result) (c .before .before .before .judge .ensures))
+returns-5 c = subst (λ (m : Machine). StepsFrom Stage.Judging (c .before .before .before .before .before .before .args .held) (c .before .before .before .before .before .before .args .event) (now (c .before .before .before .before .before .before .args .buf)) (now (c .before .before .before .before .before .before .args .out)) m (now (c .before .before .before .before .before .before .args .out))) (sym (c .reading3 .ensures)) (read-on-steps (c .before .before .before .before .before .before .args .held) (c .before .before .before .before .before .before .args .event) (now (c .before .before .before .before .before .before .args .buf)) (now (c .before .before .before .before .before .before .args .out)) (now (c .before .before .before .before .before .before .args .out)) (c .before .before .before .judge .result) (c .before .before .before .judge .ensures) (ap (λ (s : JudgeStage). givesUp (judgeAsks s)) (c .before .enum-told4 .given .1)))
 
 -- src/calling.rt:83:1
 returns-6 : tie.Need-returns-6
-returns-6 c = subst (λ (m : Machine). StepsFrom Stage.Judging (c .before .before .before .before .before .before .args .held) (c .before .before .before .before .before .before .args .event) (now (c .before .before .before .before .before .before .args .buf)) (now (c .before .before .before .before .before .before .args .out)) m (now (c .before .before .before .before .before .before .args .out))) (sym (c .reading4 .ensures)) (read-on-steps (c .before .before .before .before .before .before .args .held) (c .before .before .before .before .before .before .args .event) (now (c .before .before .before .before .before .before .args .buf)) (now (c .before .before .before .before .before .before .args .out)) (now (c .before .before .before .before .before .before .args .out)) (c .before .before .before .judge .result) (c .before .before .before .judge .ensures))
+returns-6 c = subst (λ (m : Machine). StepsFrom Stage.Judging (c .before .before .before .before .before .before .args .held) (c .before .before .before .before .before .before .args .event) (now (c .before .before .before .before .before .before .args .buf)) (now (c .before .before .before .before .before .before .args .out)) m (now (c .before .before .before .before .before .before .args .out))) (sym (c .reading4 .ensures)) (read-on-steps (c .before .before .before .before .before .before .args .held) (c .before .before .before .before .before .before .args .event) (now (c .before .before .before .before .before .before .args .buf)) (now (c .before .before .before .before .before .before .args .out)) (now (c .before .before .before .before .before .before .args .out)) (c .before .before .before .judge .result) (c .before .before .before .judge .ensures) (ap (λ (s : JudgeStage). givesUp (judgeAsks s)) (c .before .enum-told5 .given .1)))
 
 -- src/calling.rt:83:1
 returns-7 : tie.Need-returns-7
-returns-7 c = subst (λ (m : Machine). StepsFrom Stage.Judging (c .before .before .before .before .before .before .args .held) (c .before .before .before .before .before .before .args .event) (now (c .before .before .before .before .before .before .args .buf)) (now (c .before .before .before .before .before .before .args .out)) m (now (c .before .before .before .before .before .before .args .out))) (sym (c .reading5 .ensures)) (read-on-steps (c .before .before .before .before .before .before .args .held) (c .before .before .before .before .before .before .args .event) (now (c .before .before .before .before .before .before .args .buf)) (now (c .before .before .before .before .before .before .args .out)) (now (c .before .before .before .before .before .before .args .out)) (c .before .before .before .judge .result) (c .before .before .before .judge .ensures))
+returns-7 c = subst (λ (m : Machine). StepsFrom Stage.Judging (c .before .before .before .before .before .before .args .held) (c .before .before .before .before .before .before .args .event) (now (c .before .before .before .before .before .before .args .buf)) (now (c .before .before .before .before .before .before .args .out)) m (now (c .before .before .before .before .before .before .args .out))) (sym (c .reading5 .ensures)) (read-on-steps (c .before .before .before .before .before .before .args .held) (c .before .before .before .before .before .before .args .event) (now (c .before .before .before .before .before .before .args .buf)) (now (c .before .before .before .before .before .before .args .out)) (now (c .before .before .before .before .before .before .args .out)) (c .before .before .before .judge .result) (c .before .before .before .judge .ensures) (ap (λ (s : JudgeStage). givesUp (judgeAsks s)) (c .before .enum-told6 .given .1)))
 
 pub judged-spec : {M : Type 1} → statement M
 judged-spec =

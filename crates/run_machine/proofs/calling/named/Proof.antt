@@ -1,7 +1,7 @@
 -- `named` meets its contract. Assumes nothing.
-use Rattle.run_machine.proofs.CallingLaws.{told-call, wrong-call}
+use Rattle.run_machine.proofs.CallingLaws.{told-call, untold-call}
 use mathlib.Core.Path.{_≡_, refl, sym, ap, _∙_, subst}
-use native.Mathlib.Omega.{arith}
+use borrow.Author.Tests.{not-true}
 use Rattle.run_machine.specs.declared.state.Stage.{Stage}
 use borrow.Author.Needs.{needs}
 use Rattle.run_machine.proofs.calling.named.Statement.{statement}
@@ -16,11 +16,11 @@ stopped-requires c κs = search needs
 
 -- src/calling.rt:60:9
 returns : tie.Need-returns
-returns c = wrong-call Stage.Telling (c .before .before .args .held) _ _ (λ g w. omega arith) (c .stopped .ensures)
+returns c = untold-call (c .before .before .args .held) (c .before .before .args .told) _ _ (not-true _ (c .before .if1 .taken)) (c .stopped .ensures)
 
 -- src/calling.rt:56:1
 returns-2 : tie.Need-returns-2
-returns-2 c = told-call (c .before .args .held)
+returns-2 c = told-call (c .before .args .held) (c .before .args .told)
 
 pub named-spec : {M : Type 1} → statement M
 named-spec = tie.close (tie.spec stopped-requires returns returns-2)

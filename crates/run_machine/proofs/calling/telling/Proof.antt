@@ -59,23 +59,23 @@ stopped-requires-4 c κs = search needs
 
 -- src/calling.rt:70:1
 returns : tie.Need-returns
-returns c = at-event Stage.Telling (c .before .before .before .before .before .before .before .args .held) (c .before .before .before .before .before .before .before .args .event) _ (now (c .before .before .before .before .before .before .before .args .buf)) (now (c .before .before .before .before .before .before .before .args .out)) (now (c .before .before .before .before .before .before .before .args .out)) _ (c .before .before .before .event .given .1) (tell-steps (c .before .before .before .before .before .before .before .args .held) _ (now (c .before .before .before .before .before .before .before .args .buf)) (now (c .before .before .before .before .before .before .before .args .out)) (now (c .before .before .before .before .before .before .before .args .out)) _ (c .named .ensures))
+returns c = at-event Stage.Telling (c .before .before .before .before .before .before .before .args .held) (c .before .before .before .before .before .before .before .args .event) _ (now (c .before .before .before .before .before .before .before .args .buf)) (now (c .before .before .before .before .before .before .before .args .out)) (now (c .before .before .before .before .before .before .before .args .out)) _ (c .before .before .before .event .given .1) (tell-steps (c .before .before .before .before .before .before .before .args .held) _ _ (now (c .before .before .before .before .before .before .before .args .buf)) (now (c .before .before .before .before .before .before .before .args .out)) (now (c .before .before .before .before .before .before .before .args .out)) _ (c .before .is-told .ensures) (c .named .ensures))
 
 -- src/calling.rt:70:1
 returns-2 : tie.Need-returns-2
-returns-2 c = stop-steps Stage.Telling (c .before .before .before .before .before .args .held) (c .before .before .before .before .before .args .event) (now (c .before .before .before .before .before .args .buf)) (now (c .before .before .before .before .before .args .out)) (now (c .before .before .before .before .before .args .out)) _ _ (c .stopped .ensures)
+returns-2 c = stop-steps Stage.Telling (c .before .before .before .before .before .args .held) (c .before .before .before .before .before .args .event) _ (now (c .before .before .before .before .before .args .buf)) (now (c .before .before .before .before .before .args .out)) (now (c .before .before .before .before .before .args .out)) _ _ (c .stopped .ensures) (c .before .enum-told .given .1) refl
 
 -- src/calling.rt:70:1
 returns-3 : tie.Need-returns-3
-returns-3 c = stop-steps Stage.Telling (c .before .before .before .before .before .args .held) (c .before .before .before .before .before .args .event) (now (c .before .before .before .before .before .args .buf)) (now (c .before .before .before .before .before .args .out)) (now (c .before .before .before .before .before .args .out)) _ _ (c .stopped2 .ensures)
+returns-3 c = stop-steps Stage.Telling (c .before .before .before .before .before .args .held) (c .before .before .before .before .before .args .event) _ (now (c .before .before .before .before .before .args .buf)) (now (c .before .before .before .before .before .args .out)) (now (c .before .before .before .before .before .args .out)) _ _ (c .stopped2 .ensures) (c .before .enum-told2 .given .1) refl
 
 -- src/calling.rt:70:1
 returns-4 : tie.Need-returns-4
-returns-4 c = stop-steps Stage.Telling (c .before .before .before .before .before .args .held) (c .before .before .before .before .before .args .event) (now (c .before .before .before .before .before .args .buf)) (now (c .before .before .before .before .before .args .out)) (now (c .before .before .before .before .before .args .out)) _ _ (c .stopped3 .ensures)
+returns-4 c = stop-steps Stage.Telling (c .before .before .before .before .before .args .held) (c .before .before .before .before .before .args .event) _ (now (c .before .before .before .before .before .args .buf)) (now (c .before .before .before .before .before .args .out)) (now (c .before .before .before .before .before .args .out)) _ _ (c .stopped3 .ensures) (c .before .enum-told3 .given .1) refl
 
 -- src/calling.rt:70:1
 returns-5 : tie.Need-returns-5
-returns-5 c = stop-steps Stage.Telling (c .before .before .before .before .before .args .held) (c .before .before .before .before .before .args .event) (now (c .before .before .before .before .before .args .buf)) (now (c .before .before .before .before .before .args .out)) (now (c .before .before .before .before .before .args .out)) _ _ (c .stopped4 .ensures)
+returns-5 c = stop-steps Stage.Telling (c .before .before .before .before .before .args .held) (c .before .before .before .before .before .args .event) _ (now (c .before .before .before .before .before .args .buf)) (now (c .before .before .before .before .before .args .out)) (now (c .before .before .before .before .before .args .out)) _ _ (c .stopped4 .ensures) (c .before .enum-told4 .given .1) refl
 
 pub telling-spec : {M : Type 1} → statement M
 telling-spec =

@@ -1,8 +1,8 @@
 -- `finished` meets its contract. Assumes nothing.
 use Rattle.simulation.specs.declared.state.Phase.{Phase}
 use Rattle.run_machine.specs.Steps.{isOver}
-use Rattle.run_machine.proofs.HandingLaws.{complete-finishes, finishing-stops}
-use borrow.Author.Tests.{not-false}
+use Rattle.run_machine.proofs.HandingLaws.{complete-finishes, broken-stops, unended-stops}
+use borrow.Author.Tests.{not-true, not-false}
 use mathlib.Core.Path.{_≡_, refl, sym, ap, _∙_, subst}
 use borrow.Author.Needs.{needs}
 use Rattle.run_machine.proofs.hand_over.finished.Statement.{statement}
@@ -27,7 +27,7 @@ stopped-requires c κs = search needs
 
 -- src/hand_over.rt:54:9
 returns : tie.Need-returns
-returns c = finishing-stops (c .before .before .before .before .before .args .held) _ _ (c .stopped .ensures)
+returns c = broken-stops (c .before .before .before .before .before .args .held) _ _ (ap isOver (sym (c .before .before .before .phase-of .ensures)) ∙ sym (c .before .before .is-over .ensures) ∙ not-true _ (c .before .if1 .taken)) (c .stopped .ensures)
 
 -- src/hand_over.rt:57:9
 returns-2 : tie.Need-returns-2
@@ -39,7 +39,7 @@ stopped-requires-2 c κs = search needs
 
 -- src/hand_over.rt:49:1
 returns-3 : tie.Need-returns-3
-returns-3 c = finishing-stops (c .before .before .before .before .before .before .args .held) _ _ (c .stopped2 .ensures)
+returns-3 c = unended-stops (c .before .before .before .before .before .before .args .held) _ _ (ap isOver (sym (c .before .before .before .before .phase-of .ensures)) ∙ sym (c .before .before .before .is-over .ensures) ∙ not-false _ (c .before .before .if1 .left)) (c .before .if2 .left) (c .stopped2 .ensures)
 
 pub finished-spec : {M : Type 1} → statement M
 finished-spec =

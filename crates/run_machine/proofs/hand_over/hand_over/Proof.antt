@@ -18,7 +18,7 @@ stopped-requires c κs = search needs
 
 -- src/hand_over.rt:20:9
 returns : tie.Need-returns
-returns c = handing-stops (c .before .before .before .before .args .held) (now (c .before .before .before .before .args .buf)) (now (c .before .before .before .before .args .out)) (now (c .before .before .before .before .args .out)) _ _ (c .stopped .ensures)
+returns c = handing-stops (c .before .before .before .before .args .held) (now (c .before .before .before .before .args .buf)) (now (c .before .before .before .before .args .out)) (now (c .before .before .before .before .args .out)) _ _ (c .before .if1 .taken) (c .stopped .ensures)
 
 -- src/hand_over.rt:22:41
 slice-aggregate-advance : tie.Need-slice-aggregate-advance

@@ -16,7 +16,7 @@ stopped-requires c κs = search needs
 
 -- src/next.rt:77:9
 returns : tie.Need-returns
-returns c = small-steps (c .before .before .before .before .args .machine) (c .before .before .before .before .args .event) (now (c .before .before .before .before .args .buf)) (now (c .before .before .before .before .args .out)) (now (c .before .before .before .before .args .out)) _ _ (c .stopped .ensures)
+returns c = small-steps (c .before .before .before .before .args .machine) (c .before .before .before .before .args .event) (now (c .before .before .before .before .args .buf)) (now (c .before .before .before .before .args .out)) _ _ (λ ten roomy. omega (arith, ten, roomy)) (c .stopped .ensures)
 
 -- src/next.rt:80:9
 stopped-requires-2 : tie.Need-stopped-requires-2
@@ -24,7 +24,7 @@ stopped-requires-2 c κs = search needs
 
 -- src/next.rt:80:9
 returns-2 : tie.Need-returns-2
-returns-2 c = small-steps (c .before .before .before .before .before .args .machine) (c .before .before .before .before .before .args .event) (now (c .before .before .before .before .before .args .buf)) (now (c .before .before .before .before .before .args .out)) (now (c .before .before .before .before .before .args .out)) _ _ (c .stopped2 .ensures)
+returns-2 c = small-steps (c .before .before .before .before .before .args .machine) (c .before .before .before .before .before .args .event) (now (c .before .before .before .before .before .args .buf)) (now (c .before .before .before .before .before .args .out)) _ _ (λ ten roomy. omega (arith, ten, roomy)) (c .stopped2 .ensures)
 
 -- src/next.rt:82:5
 step-requires : tie.Need-step-requires
@@ -36,7 +36,7 @@ same-length c = search needs
 
 -- src/next.rt:73:1
 returns-3 : tie.Need-returns-3
-returns-3 c = large-steps (c .before .before .before .before .before .before .before .before .args .machine) (c .before .before .before .before .before .before .before .before .args .event) (now (c .before .before .before .before .before .before .before .before .args .buf)) (now (c .before .before .before .before .before .before .before .before .args .out)) _ _ (omega arith) (omega arith) (c .before .before .step .ensures)
+returns-3 c = large-steps (c .before .before .before .before .before .before .before .before .args .machine) (c .before .before .before .before .before .before .before .before .args .event) (now (c .before .before .before .before .before .before .before .before .args .buf)) (now (c .before .before .before .before .before .before .before .before .args .out)) _ _ (omega arith) (omega arith) (same-length c) (c .before .before .step .ensures)
 
 pub next-spec : {M : Type 1} → statement M
 next-spec =

@@ -150,7 +150,7 @@ returns-8 c = at-stage _ _ (c .before .before .before .before .before .before .b
 
 -- src/next.rt:49:1
 returns-9 : tie.Need-returns-9
-returns-9 c = stop-steps _ (c .before .before .before .before .before .before .args .machine .held) (c .before .before .before .before .before .before .args .event) (now (c .before .before .before .before .before .before .args .buf)) (now (c .before .before .before .before .before .before .args .out)) (now (c .before .before .before .before .before .before .args .out)) _ _ (c .stopped .ensures)
+returns-9 c = at-stage _ _ (c .before .before .before .before .before .before .args .machine .held) (c .before .before .before .before .before .before .args .event) (now (c .before .before .before .before .before .before .args .buf)) (now (c .before .before .before .before .before .before .args .out)) (now (c .before .before .before .before .before .before .args .out)) _ (c .before .enum-told7 .given .1) (stop-steps _ (c .before .before .before .before .before .before .args .machine .held) (c .before .before .before .before .before .before .args .event) (c .before .before .before .before .before .before .args .event) (now (c .before .before .before .before .before .before .args .buf)) (now (c .before .before .before .before .before .before .args .out)) (now (c .before .before .before .before .before .before .args .out)) _ _ (c .stopped .ensures) refl refl)
 
 pub step-spec : {M : Type 1} → statement M
 step-spec =

@@ -26,7 +26,7 @@ stopped-requires c κs = search needs
 
 -- src/second_pass.rt:32:9
 returns : tie.Need-returns
-returns c = entering-stops (c .before .before .before .before .before .before .before .before .before .args .held) (c .before .before .before .before .before .before .before .before .before .args .size) (now (c .before .before .before .before .before .before .before .before .before .args .chunk)) (now (c .before .before .before .before .before .before .before .before .before .args .buf)) (now (c .before .before .before .before .before .before .before .before .before .args .out)) (now (c .before .before .before .before .before .before .before .before .before .args .out)) _ _ (c .stopped .ensures)
+returns c = entering-stops (c .before .before .before .before .before .before .before .before .before .args .held) (c .before .before .before .before .before .before .before .before .before .args .size) (now (c .before .before .before .before .before .before .before .before .before .args .chunk)) (now (c .before .before .before .before .before .before .before .before .before .args .buf)) (now (c .before .before .before .before .before .before .before .before .before .args .out)) (now (c .before .before .before .before .before .before .before .before .before .args .out)) (c .before .before .before .before .first-tally .result) (c .before .before .before .before .before .tallied .result) _ _ (c .before .before .before .before .first-tally .ensures) (c .before .before .before .before .before .tallied .ensures) (c .before .if1 .taken) (c .stopped .ensures)
 
 -- src/second_pass.rt:39:5
 hand-over-requires : tie.Need-hand-over-requires

@@ -1,6 +1,6 @@
 -- `second_end` meets its contract. Assumes nothing.
 use Rattle.run_machine.proofs.SecondPassLaws.{second-ends, ending-stops}
-use borrow.Author.Tests.{not-false}
+use borrow.Author.Tests.{not-true, not-false}
 use denote.Ref.{now}
 use mathlib.Core.Path.{_≡_, refl, sym, ap, _∙_, subst}
 use borrow.Author.Needs.{needs}
@@ -27,7 +27,7 @@ stopped-requires c κs = search needs
 
 -- src/second_pass.rt:47:9
 returns : tie.Need-returns
-returns c = ending-stops (c .before .before .before .before .before .before .args .held) (now (c .before .before .before .before .before .before .args .buf)) (now (c .before .before .before .before .before .before .args .out)) (now (c .before .before .before .before .before .before .args .out)) _ _ (c .stopped .ensures)
+returns c = ending-stops (c .before .before .before .before .before .before .args .held) (now (c .before .before .before .before .before .before .args .buf)) (now (c .before .before .before .before .before .before .args .out)) (now (c .before .before .before .before .before .before .args .out)) (c .before .before .before .first-tally .result) _ _ (c .before .before .before .first-tally .ensures) (sym (c .before .before .same-tally .ensures) ∙ not-true _ (c .before .if1 .taken)) (c .stopped .ensures)
 
 -- src/second_pass.rt:53:5
 hand-over-requires : tie.Need-hand-over-requires

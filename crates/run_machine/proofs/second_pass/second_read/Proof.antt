@@ -1,7 +1,7 @@
 -- `second_read` meets its contract. Assumes nothing.
 use Rattle.run_machine.proofs.SecondPassLaws.{second-read-steps, second-end-steps}
 use Rattle.run_machine.specs.declared.state.Stage.{Stage}
-use Rattle.run_machine.proofs.StopLaws.{stop-steps, at-event, at-stage}
+use Rattle.run_machine.proofs.StopLaws.{stop-steps, short-read, at-event}
 use lib.ListN.{length-take}
 use native.Mathlib.Omega.{arith}
 use denote.Ref.{now}
@@ -25,7 +25,7 @@ stopped-requires c κs = search needs
 
 -- src/second_pass.rt:62:17
 returns : tie.Need-returns
-returns c = stop-steps Stage.SecondPass (c .before .before .before .before .before .before .before .args .held) (c .before .before .before .before .before .before .before .args .event) (now (c .before .before .before .before .before .before .before .args .buf)) (now (c .before .before .before .before .before .before .before .args .out)) (now (c .before .before .before .before .before .before .before .args .out)) _ _ (c .stopped .ensures)
+returns c = short-read (c .before .before .before .before .before .before .before .args .held) (c .before .before .before .before .before .before .before .args .event) _ (now (c .before .before .before .before .before .before .before .args .buf)) (now (c .before .before .before .before .before .before .before .args .out)) (now (c .before .before .before .before .before .before .before .args .out)) _ _ (c .stopped .ensures) (c .before .before .before .event .given .1) (c .before .if1 .taken)
 
 -- src/second_pass.rt:64:38
 slice-aggregate-second-chunk : tie.Need-slice-aggregate-second-chunk
@@ -85,15 +85,15 @@ returns-3 c = at-event Stage.SecondPass (c .before .before .before .before .befo
 
 -- src/second_pass.rt:56:1
 returns-4 : tie.Need-returns-4
-returns-4 c = stop-steps Stage.SecondPass (c .before .before .before .before .before .args .held) (c .before .before .before .before .before .args .event) (now (c .before .before .before .before .before .args .buf)) (now (c .before .before .before .before .before .args .out)) (now (c .before .before .before .before .before .args .out)) _ _ (c .stopped2 .ensures)
+returns-4 c = stop-steps Stage.SecondPass (c .before .before .before .before .before .args .held) (c .before .before .before .before .before .args .event) _ (now (c .before .before .before .before .before .args .buf)) (now (c .before .before .before .before .before .args .out)) (now (c .before .before .before .before .before .args .out)) _ _ (c .stopped2 .ensures) (c .before .enum-told2 .given .1) refl
 
 -- src/second_pass.rt:56:1
 returns-5 : tie.Need-returns-5
-returns-5 c = stop-steps Stage.SecondPass (c .before .before .before .before .before .args .held) (c .before .before .before .before .before .args .event) (now (c .before .before .before .before .before .args .buf)) (now (c .before .before .before .before .before .args .out)) (now (c .before .before .before .before .before .args .out)) _ _ (c .stopped3 .ensures)
+returns-5 c = stop-steps Stage.SecondPass (c .before .before .before .before .before .args .held) (c .before .before .before .before .before .args .event) _ (now (c .before .before .before .before .before .args .buf)) (now (c .before .before .before .before .before .args .out)) (now (c .before .before .before .before .before .args .out)) _ _ (c .stopped3 .ensures) (c .before .enum-told3 .given .1) refl
 
 -- src/second_pass.rt:56:1
 returns-6 : tie.Need-returns-6
-returns-6 c = stop-steps Stage.SecondPass (c .before .before .before .before .before .args .held) (c .before .before .before .before .before .args .event) (now (c .before .before .before .before .before .args .buf)) (now (c .before .before .before .before .before .args .out)) (now (c .before .before .before .before .before .args .out)) _ _ (c .stopped4 .ensures)
+returns-6 c = stop-steps Stage.SecondPass (c .before .before .before .before .before .args .held) (c .before .before .before .before .before .args .event) _ (now (c .before .before .before .before .before .args .buf)) (now (c .before .before .before .before .before .args .out)) (now (c .before .before .before .before .before .args .out)) _ _ (c .stopped4 .ensures) (c .before .enum-told4 .given .1) refl
 
 pub second-read-spec : {M : Type 1} → statement M
 second-read-spec =

@@ -1,5 +1,5 @@
 -- `begun` meets its contract. Assumes nothing.
-use Rattle.run_machine.proofs.SecondsLaws.{refusal-begun, run-begun, begun-stops}
+use Rattle.run_machine.proofs.SecondsLaws.{refusal-begun, run-begun, begun-stops, isBegin}
 use Rattle.run_machine.specs.Steps.{Begun}
 use Rattle.run_machine.specs.declared.state.Machine.{Machine}
 use denote.Ref.{now}
@@ -98,23 +98,23 @@ returns-2 c = subst (λ (m : Machine). Begun (c .before .before .before .before 
 
 -- src/seconds.rt:48:1
 returns-3 : tie.Need-returns-3
-returns-3 c = begun-stops (c .before .before .before .before .before .before .before .before .before .before .args .held) (now (c .before .before .before .before .before .before .before .before .before .before .args .asked)) (now (c .before .before .before .before .before .before .before .before .before .before .args .out)) (now (c .before .before .before .before .before .before .before .before .before .before .args .out)) _ _ (c .stopped .ensures)
+returns-3 c = begun-stops (c .before .before .before .before .before .before .before .before .before .before .args .held) (now (c .before .before .before .before .before .before .before .before .before .before .args .asked)) (now (c .before .before .before .before .before .before .before .before .before .before .args .out)) (now (c .before .before .before .before .before .before .before .before .before .before .args .out)) (c .before .before .before .before .before .finish .result) (c .before .before .before .before .begin .result) _ _ (c .before .before .before .before .begin .ensures) (ap isBegin (sym (c .before .before .before .phase-of .ensures) ∙ c .before .enum-told2 .given .1)) (c .stopped .ensures)
 
 -- src/seconds.rt:48:1
 returns-4 : tie.Need-returns-4
-returns-4 c = begun-stops (c .before .before .before .before .before .before .before .before .before .before .args .held) (now (c .before .before .before .before .before .before .before .before .before .before .args .asked)) (now (c .before .before .before .before .before .before .before .before .before .before .args .out)) (now (c .before .before .before .before .before .before .before .before .before .before .args .out)) _ _ (c .stopped2 .ensures)
+returns-4 c = begun-stops (c .before .before .before .before .before .before .before .before .before .before .args .held) (now (c .before .before .before .before .before .before .before .before .before .before .args .asked)) (now (c .before .before .before .before .before .before .before .before .before .before .args .out)) (now (c .before .before .before .before .before .before .before .before .before .before .args .out)) (c .before .before .before .before .before .finish .result) (c .before .before .before .before .begin .result) _ _ (c .before .before .before .before .begin .ensures) (ap isBegin (sym (c .before .before .before .phase-of .ensures) ∙ c .before .enum-told3 .given .1)) (c .stopped2 .ensures)
 
 -- src/seconds.rt:48:1
 returns-5 : tie.Need-returns-5
-returns-5 c = begun-stops (c .before .before .before .before .before .before .before .before .before .before .args .held) (now (c .before .before .before .before .before .before .before .before .before .before .args .asked)) (now (c .before .before .before .before .before .before .before .before .before .before .args .out)) (now (c .before .before .before .before .before .before .before .before .before .before .args .out)) _ _ (c .stopped3 .ensures)
+returns-5 c = begun-stops (c .before .before .before .before .before .before .before .before .before .before .args .held) (now (c .before .before .before .before .before .before .before .before .before .before .args .asked)) (now (c .before .before .before .before .before .before .before .before .before .before .args .out)) (now (c .before .before .before .before .before .before .before .before .before .before .args .out)) (c .before .before .before .before .before .finish .result) (c .before .before .before .before .begin .result) _ _ (c .before .before .before .before .begin .ensures) (ap isBegin (sym (c .before .before .before .phase-of .ensures) ∙ c .before .enum-told4 .given .1)) (c .stopped3 .ensures)
 
 -- src/seconds.rt:48:1
 returns-6 : tie.Need-returns-6
-returns-6 c = begun-stops (c .before .before .before .before .before .before .before .before .before .before .args .held) (now (c .before .before .before .before .before .before .before .before .before .before .args .asked)) (now (c .before .before .before .before .before .before .before .before .before .before .args .out)) (now (c .before .before .before .before .before .before .before .before .before .before .args .out)) _ _ (c .stopped4 .ensures)
+returns-6 c = begun-stops (c .before .before .before .before .before .before .before .before .before .before .args .held) (now (c .before .before .before .before .before .before .before .before .before .before .args .asked)) (now (c .before .before .before .before .before .before .before .before .before .before .args .out)) (now (c .before .before .before .before .before .before .before .before .before .before .args .out)) (c .before .before .before .before .before .finish .result) (c .before .before .before .before .begin .result) _ _ (c .before .before .before .before .begin .ensures) (ap isBegin (sym (c .before .before .before .phase-of .ensures) ∙ c .before .enum-told5 .given .1)) (c .stopped4 .ensures)
 
 -- src/seconds.rt:48:1
 returns-7 : tie.Need-returns-7
-returns-7 c = begun-stops (c .before .before .before .before .before .before .before .before .before .before .args .held) (now (c .before .before .before .before .before .before .before .before .before .before .args .asked)) (now (c .before .before .before .before .before .before .before .before .before .before .args .out)) (now (c .before .before .before .before .before .before .before .before .before .before .args .out)) _ _ (c .stopped5 .ensures)
+returns-7 c = begun-stops (c .before .before .before .before .before .before .before .before .before .before .args .held) (now (c .before .before .before .before .before .before .before .before .before .before .args .asked)) (now (c .before .before .before .before .before .before .before .before .before .before .args .out)) (now (c .before .before .before .before .before .before .before .before .before .before .args .out)) (c .before .before .before .before .before .finish .result) (c .before .before .before .before .begin .result) _ _ (c .before .before .before .before .begin .ensures) (ap isBegin (sym (c .before .before .before .phase-of .ensures) ∙ c .before .enum-told6 .given .1)) (c .stopped5 .ensures)
 
 pub begun-spec : {M : Type 1} → statement M
 begun-spec =

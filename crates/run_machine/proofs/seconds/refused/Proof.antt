@@ -40,7 +40,7 @@ same-length-2 c = search needs
 
 -- src/seconds.rt:19:1
 returns-2 : tie.Need-returns-2
-returns-2 c = refusal-stop (c .before .before .before .before .before .before .before .before .args .held) (c .before .before .before .before .before .before .before .before .args .refusal) (now (c .before .before .before .before .before .before .before .before .args .out)) _ _ _ (c .stopped .ensures)
+returns-2 c = refusal-stop (c .before .before .before .before .before .before .before .before .args .held) (c .before .before .before .before .before .before .before .before .args .refusal) (now (c .before .before .before .before .before .before .before .before .args .out)) _ _ _ _ _ (c .before .enum-told .given .1) (c .before .before .before .before .before .put-refused .ensures) (c .stopped .ensures)
 
 pub refused-spec : {M : Type 1} → statement M
 refused-spec =

@@ -1,7 +1,7 @@
 -- `seconds_asked` meets its contract. Assumes nothing.
 use Rattle.run_machine.proofs.SecondsLaws.{asked-steps}
 use Rattle.run_machine.specs.declared.state.Stage.{Stage}
-use Rattle.run_machine.proofs.StopLaws.{stop-steps, at-event, at-stage}
+use Rattle.run_machine.proofs.StopLaws.{stop-steps, short-argument, at-event}
 use lib.ListN.{length-take}
 use native.Mathlib.Omega.{arith}
 use denote.Ref.{now}
@@ -24,7 +24,7 @@ stopped-requires c κs = search needs
 
 -- src/seconds.rt:57:17
 returns : tie.Need-returns
-returns c = stop-steps Stage.AskSeconds (c .before .before .before .before .before .before .before .args .held) (c .before .before .before .before .before .before .before .args .event) (now (c .before .before .before .before .before .before .before .args .buf)) (now (c .before .before .before .before .before .before .before .args .out)) (now (c .before .before .before .before .before .before .before .args .out)) _ _ (c .stopped .ensures)
+returns c = short-argument (c .before .before .before .before .before .before .before .args .held) (c .before .before .before .before .before .before .before .args .event) _ (now (c .before .before .before .before .before .before .before .args .buf)) (now (c .before .before .before .before .before .before .before .args .out)) (now (c .before .before .before .before .before .before .before .args .out)) _ _ (c .stopped .ensures) (c .before .before .before .event .given .1) (c .before .if1 .taken)
 
 -- src/seconds.rt:59:25
 slice-aggregate-begun : tie.Need-slice-aggregate-begun
@@ -76,19 +76,19 @@ returns-2 c = at-event Stage.AskSeconds (c .before .before .before .before .befo
 
 -- src/seconds.rt:51:1
 returns-3 : tie.Need-returns-3
-returns-3 c = stop-steps Stage.AskSeconds (c .before .before .before .before .before .args .held) (c .before .before .before .before .before .args .event) (now (c .before .before .before .before .before .args .buf)) (now (c .before .before .before .before .before .args .out)) (now (c .before .before .before .before .before .args .out)) _ _ (c .stopped2 .ensures)
+returns-3 c = stop-steps Stage.AskSeconds (c .before .before .before .before .before .args .held) (c .before .before .before .before .before .args .event) _ (now (c .before .before .before .before .before .args .buf)) (now (c .before .before .before .before .before .args .out)) (now (c .before .before .before .before .before .args .out)) _ _ (c .stopped2 .ensures) (c .before .enum-told .given .1) refl
 
 -- src/seconds.rt:51:1
 returns-4 : tie.Need-returns-4
-returns-4 c = stop-steps Stage.AskSeconds (c .before .before .before .before .before .args .held) (c .before .before .before .before .before .args .event) (now (c .before .before .before .before .before .args .buf)) (now (c .before .before .before .before .before .args .out)) (now (c .before .before .before .before .before .args .out)) _ _ (c .stopped3 .ensures)
+returns-4 c = stop-steps Stage.AskSeconds (c .before .before .before .before .before .args .held) (c .before .before .before .before .before .args .event) _ (now (c .before .before .before .before .before .args .buf)) (now (c .before .before .before .before .before .args .out)) (now (c .before .before .before .before .before .args .out)) _ _ (c .stopped3 .ensures) (c .before .enum-told2 .given .1) refl
 
 -- src/seconds.rt:51:1
 returns-5 : tie.Need-returns-5
-returns-5 c = stop-steps Stage.AskSeconds (c .before .before .before .before .before .args .held) (c .before .before .before .before .before .args .event) (now (c .before .before .before .before .before .args .buf)) (now (c .before .before .before .before .before .args .out)) (now (c .before .before .before .before .before .args .out)) _ _ (c .stopped4 .ensures)
+returns-5 c = stop-steps Stage.AskSeconds (c .before .before .before .before .before .args .held) (c .before .before .before .before .before .args .event) _ (now (c .before .before .before .before .before .args .buf)) (now (c .before .before .before .before .before .args .out)) (now (c .before .before .before .before .before .args .out)) _ _ (c .stopped4 .ensures) (c .before .enum-told3 .given .1) refl
 
 -- src/seconds.rt:51:1
 returns-6 : tie.Need-returns-6
-returns-6 c = stop-steps Stage.AskSeconds (c .before .before .before .before .before .args .held) (c .before .before .before .before .before .args .event) (now (c .before .before .before .before .before .args .buf)) (now (c .before .before .before .before .before .args .out)) (now (c .before .before .before .before .before .args .out)) _ _ (c .stopped5 .ensures)
+returns-6 c = stop-steps Stage.AskSeconds (c .before .before .before .before .before .args .held) (c .before .before .before .before .before .args .event) _ (now (c .before .before .before .before .before .args .buf)) (now (c .before .before .before .before .before .args .out)) (now (c .before .before .before .before .before .args .out)) _ _ (c .stopped5 .ensures) (c .before .enum-told4 .given .1) refl
 
 pub seconds-asked-spec : {M : Type 1} → statement M
 seconds-asked-spec =

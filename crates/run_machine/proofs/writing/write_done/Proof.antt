@@ -41,7 +41,7 @@ finished-requires c κs = search needs
 
 -- src/writing.rt:15:1
 returns : tie.Need-returns
-returns c = writing-stops (c .before .before .before .before .before .args .held) (c .before .before .before .before .before .args .wants) (now (c .before .before .before .before .before .args .buf)) (now (c .before .before .before .before .before .args .out)) (now (c .before .before .before .before .before .args .out)) _ _ (c .stopped .ensures)
+returns c = writing-stops (c .before .before .before .before .before .args .held) (c .before .before .before .before .before .args .wants) (now (c .before .before .before .before .before .args .buf)) (now (c .before .before .before .before .before .args .out)) (now (c .before .before .before .before .before .args .out)) _ _ (c .before .enum-told .given .1) (c .stopped .ensures)
 
 -- src/writing.rt:15:1
 returns-2 : tie.Need-returns-2
@@ -57,7 +57,7 @@ returns-3 c = room-goes (c .before .before .before .before .before .before .befo
 
 -- src/writing.rt:15:1
 returns-4 : tie.Need-returns-4
-returns-4 c = nothing-goes (c .before .before .before .before .before .args .held) (c .before .before .before .before .before .args .wants) (now (c .before .before .before .before .before .args .buf)) (now (c .before .before .before .before .before .args .out)) (now (c .before .before .before .before .before .args .out)) _ (c .finished .ensures)
+returns-4 c = nothing-goes (c .before .before .before .before .before .args .held) (c .before .before .before .before .before .args .wants) (now (c .before .before .before .before .before .args .buf)) (now (c .before .before .before .before .before .args .out)) (now (c .before .before .before .before .before .args .out)) _ (c .before .enum-told4 .given .1) (c .finished .ensures)
 
 pub write-done-spec : {M : Type 1} → statement M
 write-done-spec =

@@ -62,19 +62,19 @@ returns c = at-event (Stage.Write (c .before .before .before .before .before .be
 
 -- src/writing.rt:29:1
 returns-2 : tie.Need-returns-2
-returns-2 c = stop-steps (Stage.Write (c .before .before .before .before .before .args .size) (c .before .before .before .before .before .args .wants)) (c .before .before .before .before .before .args .held) (c .before .before .before .before .before .args .event) (now (c .before .before .before .before .before .args .buf)) (now (c .before .before .before .before .before .args .out)) (now (c .before .before .before .before .before .args .out)) _ _ (c .stopped .ensures)
+returns-2 c = stop-steps (Stage.Write (c .before .before .before .before .before .args .size) (c .before .before .before .before .before .args .wants)) (c .before .before .before .before .before .args .held) (c .before .before .before .before .before .args .event) _ (now (c .before .before .before .before .before .args .buf)) (now (c .before .before .before .before .before .args .out)) (now (c .before .before .before .before .before .args .out)) _ _ (c .stopped .ensures) (c .before .enum-told2 .given .1) refl
 
 -- src/writing.rt:29:1
 returns-3 : tie.Need-returns-3
-returns-3 c = stop-steps (Stage.Write (c .before .before .before .before .before .args .size) (c .before .before .before .before .before .args .wants)) (c .before .before .before .before .before .args .held) (c .before .before .before .before .before .args .event) (now (c .before .before .before .before .before .args .buf)) (now (c .before .before .before .before .before .args .out)) (now (c .before .before .before .before .before .args .out)) _ _ (c .stopped2 .ensures)
+returns-3 c = stop-steps (Stage.Write (c .before .before .before .before .before .args .size) (c .before .before .before .before .before .args .wants)) (c .before .before .before .before .before .args .held) (c .before .before .before .before .before .args .event) _ (now (c .before .before .before .before .before .args .buf)) (now (c .before .before .before .before .before .args .out)) (now (c .before .before .before .before .before .args .out)) _ _ (c .stopped2 .ensures) (c .before .enum-told3 .given .1) refl
 
 -- src/writing.rt:29:1
 returns-4 : tie.Need-returns-4
-returns-4 c = stop-steps (Stage.Write (c .before .before .before .before .before .args .size) (c .before .before .before .before .before .args .wants)) (c .before .before .before .before .before .args .held) (c .before .before .before .before .before .args .event) (now (c .before .before .before .before .before .args .buf)) (now (c .before .before .before .before .before .args .out)) (now (c .before .before .before .before .before .args .out)) _ _ (c .stopped3 .ensures)
+returns-4 c = stop-steps (Stage.Write (c .before .before .before .before .before .args .size) (c .before .before .before .before .before .args .wants)) (c .before .before .before .before .before .args .held) (c .before .before .before .before .before .args .event) _ (now (c .before .before .before .before .before .args .buf)) (now (c .before .before .before .before .before .args .out)) (now (c .before .before .before .before .before .args .out)) _ _ (c .stopped3 .ensures) (c .before .enum-told4 .given .1) refl
 
 -- src/writing.rt:29:1
 returns-5 : tie.Need-returns-5
-returns-5 c = stop-steps (Stage.Write (c .before .before .before .before .before .args .size) (c .before .before .before .before .before .args .wants)) (c .before .before .before .before .before .args .held) (c .before .before .before .before .before .args .event) (now (c .before .before .before .before .before .args .buf)) (now (c .before .before .before .before .before .args .out)) (now (c .before .before .before .before .before .args .out)) _ _ (c .stopped4 .ensures)
+returns-5 c = stop-steps (Stage.Write (c .before .before .before .before .before .args .size) (c .before .before .before .before .before .args .wants)) (c .before .before .before .before .before .args .held) (c .before .before .before .before .before .args .event) _ (now (c .before .before .before .before .before .args .buf)) (now (c .before .before .before .before .before .args .out)) (now (c .before .before .before .before .before .args .out)) _ _ (c .stopped4 .ensures) (c .before .enum-told5 .given .1) refl
 
 pub written-spec : {M : Type 1} → statement M
 written-spec =
