@@ -1,7 +1,6 @@
 -- WHAT A STEP KEEPS, every list of events keeps; and where each step brings a program nearer to its stop, the stop comes in so many steps.
 -- Assumes nothing.
-use Prim.Native.Nat.{ℕ, zero, suc, _+_, _≤_, _<_}
-use mathlib.Core.Path.{_≡_, refl, sym, ap, _∙_, subst}
+use Prim.Native.Nat.{ℕ, _+_, _≤_, _<_}
 use mathlib.Core.List.{List}
 use native.Mathlib.Omega.{arith}
 use Rattle.exchange.specs.declared.action.Action.{Action}

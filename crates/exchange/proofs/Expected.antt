@@ -1,6 +1,6 @@
 -- Which events answer an action and are no failure; and at a system at which nothing fails that need not, none fails where a read has
 -- a part of the buffer. Assumes nothing.
-use Prim.Native.Nat.{ℕ, _+_, _≤_, _<_, min}
+use Prim.Native.Nat.{ℕ, _≤_, _<_, min}
 use mathlib.Core.Path.{_≡_, refl, sym, ap, _∙_, subst}
 use mathlib.Core.Bool.{Bool, true, false}
 use mathlib.Core.List.{List}

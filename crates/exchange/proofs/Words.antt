@@ -1,5 +1,4 @@
 -- The word that an action stops with, and that an action which is no such stop has none. Assumes nothing.
-use Prim.Native.Nat.{ℕ}
 use mathlib.Core.Path.{_≡_, refl, sym, ap, _∙_}
 use mathlib.Core.Bool.{Bool, true, false}
 use Rattle.rules.proofs.Tests.{never}

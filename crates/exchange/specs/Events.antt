@@ -1,12 +1,10 @@
 -- EVENTS one after the other, of any program: the states of its machine from the first to the last, the files and the output, and the bytes
 -- of both buffers. `asks` is what a state asks for, and `One` is what is known of a step; a program's theorem takes for it what the contract
 -- of its own step ensures.
-use Prim.Native.Nat.{ℕ, zero, suc, _+_, _≤_, _<_, _*_}
+use Prim.Native.Nat.{ℕ, zero, suc, _+_}
 use mathlib.Core.Path.{_≡_}
-use mathlib.Core.List.{List, [], _∷_, _++_}
-use lib.ListN.{length}
+use mathlib.Core.List.{List, _++_}
 use Rattle.exchange.specs.declared.action.Action.{Action}
-use Rattle.exchange.specs.declared.action.Word.{Word}
 use Rattle.exchange.specs.declared.event.Event.{Event}
 use Rattle.exchange.specs.World.{World, Fits, after}
 

@@ -1,22 +1,22 @@
 -- What the first pass over the sample file keeps. Assumes nothing.
-use Prim.Native.Nat.{ℕ, _+_, _≤_, _<_}
+use Prim.Native.Nat.{ℕ, _+_, _<_}
 use mathlib.Core.Path.{_≡_, refl, sym, ap, _∙_}
-use mathlib.Core.Bool.{Bool, true, false}
+use mathlib.Core.Bool.{true}
 use mathlib.Core.List.{List, [], _∷_, _++_}
 use native.Mathlib.Omega.{arith}
 use lib.ListN.{length, take, drop}
-use Rattle.rules.specs.Answers.{Answer, accepted}
+use Rattle.rules.specs.Answers.{accepted}
 use Rattle.rules.proofs.Tests.{never}
 use Rattle.intake.specs.declared.tally.Tally.{Tally}
 use Rattle.intake.specs.Stations.{isRefused}
-use Rattle.intake.specs.Tally.{noBytes, talliedOf}
+use Rattle.intake.specs.Tally.{talliedOf}
 use Rattle.intake.proofs.TallyLaws.{tallied-append}
 use Rattle.samples.specs.declared.check.SampleCheck.{SampleCheck}
 use Rattle.samples.specs.declared.check.Span.{Span}
 use Rattle.samples.specs.declared.stage.Stage as sheets
-use Rattle.samples.specs.ToCome.{mostPlace, placed, toCome, upToRefused, answerFrom}
+use Rattle.samples.specs.ToCome.{toCome, upToRefused, answerFrom}
 use Rattle.samples.specs.Streamed as streamed
-use Rattle.samples.specs.Streamed.{sheetSpan, checkedWith, yetToCome, spanned, linesAfter, begunIn}
+use Rattle.samples.specs.Streamed.{checkedWith, yetToCome, spanned, linesAfter, begunIn}
 use Rattle.samples.proofs.CheckLaws.{span-place}
 use Rattle.samples.proofs.ChunkLaws.{refused-for-good}
 use Rattle.exchange.specs.declared.event.Event.{Event}

@@ -1,12 +1,10 @@
 -- What the reading of the station file keeps. Assumes nothing.
-use Prim.Native.Nat.{ℕ, _+_, _≤_, _<_}
+use Prim.Native.Nat.{ℕ, _+_, _<_}
 use mathlib.Core.Path.{_≡_, refl, sym, ap, _∙_}
-use mathlib.Core.Bool.{Bool, true, false}
+use mathlib.Core.Bool.{true}
 use mathlib.Core.List.{List, [], _∷_, _++_}
 use native.Mathlib.Omega.{arith}
 use lib.ListN.{length, take, drop}
-use Rattle.rules.specs.declared.station.Station.{Station}
-use Rattle.rules.specs.Answers.{Answer, accepted, refused}
 use Rattle.rules.specs.StationFile.{stationFile}
 use Rattle.rules.proofs.Tests.{never}
 use Rattle.intake.specs.declared.station_bytes.StationBytes.{StationBytes}

@@ -1,5 +1,5 @@
 -- What the steps between the readings keep, and what holds at the start. Assumes nothing.
-use Prim.Native.Nat.{ℕ, _+_, _≤_, _<_}
+use Prim.Native.Nat.{ℕ}
 use mathlib.Core.Path.{_≡_, refl, sym, ap, _∙_, subst}
 use mathlib.Core.Bool.{Bool, true, false}
 use mathlib.Core.List.{List, [], _∷_}
@@ -17,10 +17,8 @@ use Rattle.exchange.specs.declared.event.Event.{Event}
 use Rattle.exchange.specs.World.{World, leftIn, againIn, leftOf, againOf, withFile}
 use Rattle.judging.specs.declared.state.JudgeStage.{JudgeStage}
 use Rattle.judging.specs.declared.state.Held.{Held}
-use Rattle.judging.specs.declared.state.Judging.{Judging}
 use Rattle.judging.specs.Stages.{movedBy, openedBy}
-use Rattle.judging.specs.Holds.{Files, Ahead, Opening, Checking, JudgesFrom, Unread, Begins}
-use Rattle.judging.proofs.StopLaws.{stop-steps}
+use Rattle.judging.specs.Holds.{Files, Ahead, Opening, Checking, JudgesFrom, Begins}
 
 -- ---- nothing is read yet
 

@@ -1,5 +1,4 @@
 -- What each stage asks for, and what changes from one to the next.
-use Prim.Native.Nat.{ℕ}
 use mathlib.Core.Bool.{Bool, true, false}
 use Rattle.exchange.specs.declared.action.Action.{Action}
 use Rattle.exchange.specs.declared.action.Why.{Why}

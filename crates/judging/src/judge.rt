@@ -1,5 +1,6 @@
 // THE STEP: from what came of the last action to the next.
 ghost use mathlib.Core.Path.{_≡_};
+ghost use Rattle.judging.specs.Stages.{openedBy};
 ghost use Rattle.judging.specs.Holds.{Begins, JudgesFrom};
 use crate::reading::samples_read;
 use crate::reading::station_read;
@@ -41,8 +42,6 @@ fn opened(held: Held, event: Event) -> Judging
     }
     moved(held, event, JudgeStage::ReadSamples, Why::Unopened(SAMPLES))
 }
-
-ghost use Rattle.judging.specs.Stages.{openedBy};
 
 // `buf` is lent to be read.
 pub fn judge(judging: Judging, event: Event, buf: &[u8]) -> Judging

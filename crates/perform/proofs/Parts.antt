@@ -4,8 +4,8 @@ use native.Mathlib.Decide.{decLe}
 use native.Mathlib.Omega.{arith}
 use mathlib.Core.Path.{_≡_, refl, sym, _∙_, ap}
 use mathlib.Core.List.{List}
-use lib.ListN.{length, take, drop, drop-of-length-le}
-use borrow.Rule.Slice.PartMut.{putMid, midOf, same-len-mid, mid-len, take-put, drop-put}
+use lib.ListN.{length, drop, drop-of-length-le}
+use borrow.Rule.Slice.PartMut.{putMid, same-len-mid, mid-len, take-put, drop-put}
 use Rattle.exchange.specs.declared.event.Event.{Event}
 use Rattle.exchange.specs.World.{Outside}
 use Rattle.perform.specs.Shape.{ShapedRead}

@@ -13,21 +13,19 @@ use Rattle.intake.specs.Tally.{noBytes}
 use Rattle.exchange.specs.declared.action.Why.{Why}
 use Rattle.exchange.specs.declared.event.Event.{Event}
 use Rattle.exchange.specs.Existing.{givesUp}
-use Rattle.exchange.specs.World.{World, leftOf, againOf, after}
+use Rattle.exchange.specs.World.{leftOf, after}
 use Rattle.judging.specs.declared.state.JudgeStage.{JudgeStage}
 use Rattle.judging.specs.declared.state.Judging.{Judging}
 use Rattle.judging.specs.Stages.{judgeAsks, isStopped}
 use Rattle.judging.specs.Holds as judging
 use Rattle.judging.specs.Holds.{JudgeHolds, judgeSteps, judgeStepsAt, JudgeHoldsAt, JudgesFrom}
 use Rattle.judging.proofs.FrameLaws.{judging-writes-nothing, judging-keeps-arguments}
-use Rattle.simulation.specs.declared.state.Simulation.{Simulation}
 use Rattle.run_machine.specs.declared.state.Stage.{Stage}
 use Rattle.run_machine.specs.declared.state.Held.{Held}
 use Rattle.run_machine.specs.declared.state.Machine.{Machine}
 use Rattle.run_machine.specs.Stages.{stopping}
-use Rattle.run_machine.specs.Given.{Given, filesOf, RightCall}
-use Rattle.run_machine.specs.Holds.{Reading, stepsAt, stepsJudged}
-use Rattle.run_machine.specs.Steps.{Nearer, StepsFrom, CallsWith, Tells, Names, Starting, Opens}
+use Rattle.run_machine.specs.Given.{filesOf, RightCall}
+use Rattle.run_machine.specs.Steps.{StepsFrom, CallsWith, Tells, Names, Opens}
 use Rattle.run_machine.proofs.StopLaws.{none-stop}
 
 -- ---- the first state

@@ -2,7 +2,7 @@
 -- sample file that has the same bytes in both passes, it stops with `Complete` or with a refusal, and all of the text is written. Assumes
 -- of the loop what `exchange/specs/World.antt` says.
 use Prim.Native.Nat.{ℕ, _≤_, _<_}
-use mathlib.Core.Path.{_≡_, refl, sym, ap, _∙_, subst}
+use mathlib.Core.Path.{_≡_, ap, _∙_}
 use mathlib.Core.Bool.{true, false}
 use mathlib.Core.List.{List}
 use native.Mathlib.Omega.{arith}

@@ -1,8 +1,8 @@
 -- What a call of the run with a chunk keeps, of calls of which only what `advance` ensures is known; and the end of a run. Assumes nothing.
-use Prim.Native.Nat.{ℕ, _+_, _*_, _≤_, _<_}
+use Prim.Native.Nat.{ℕ, _+_, _≤_, _<_}
 use mathlib.Core.Path.{_≡_, refl, sym, ap, _∙_, subst}
 use mathlib.Core.Bool.{Bool, true, false}
-use mathlib.Core.List.{List, [], _∷_, _++_, append-nil, append-assoc}
+use mathlib.Core.List.{List, [], _++_, append-nil, append-assoc}
 use native.Mathlib.Omega.{arith}
 use lib.ListN.{length, take, drop, length-append, drop-of-length-le}
 use Rattle.rules.specs.declared.run.Inputs.{Inputs}
@@ -21,13 +21,13 @@ use Rattle.simulation.specs.Calls.{Called}
 use Rattle.simulation.proofs.Program.{comes-length, over-by}
 use Rattle.exchange.specs.declared.action.Word.{Word}
 use Rattle.exchange.specs.declared.action.Why.{Why}
-use Rattle.exchange.specs.World.{World, leftOf}
+use Rattle.exchange.specs.World.{leftOf}
 use Rattle.run_machine.specs.declared.state.Stage.{Stage}
 use Rattle.run_machine.specs.declared.state.Held.{Held}
 use Rattle.run_machine.specs.declared.state.Machine.{Machine}
 use Rattle.run_machine.specs.Stages.{stopping}
 use Rattle.run_machine.specs.Given.{Given, text, Agreed, Goes, OfSome}
-use Rattle.run_machine.specs.Holds.{afterChunk, toRead, Tallies, Handing, Wanting, wantSteps, passSteps}
+use Rattle.run_machine.specs.Holds.{afterChunk, toRead, Tallies, Wanting, wantSteps, passSteps}
 use Rattle.run_machine.specs.Steps.{HandsOver, isOver, Finishes}
 use Rattle.run_machine.proofs.StopLaws.{handing-unfinished, nearer-stop}
 

@@ -15,19 +15,18 @@ use Rattle.intake.proofs.TallyLaws.{tallied-append}
 use Rattle.samples.specs.ToCome.{mostPlace}
 use Rattle.simulation.specs.declared.state.Simulation.{Simulation}
 use Rattle.simulation.specs.declared.state.Wants.{Wants}
-use Rattle.simulation.specs.Turns.{weight}
 use Rattle.exchange.specs.declared.action.Why.{Why}
 use Rattle.exchange.specs.declared.action.Word.{Word}
 use Rattle.exchange.specs.declared.event.Event.{Event}
-use Rattle.exchange.specs.World.{World, leftIn, againIn, leftOf, againOf, withFile, withWritten}
+use Rattle.exchange.specs.World.{World, leftIn, leftOf, againOf, withFile, withWritten}
 use Rattle.judging.proofs.StopLaws.{less-left}
 use Rattle.run_machine.specs.declared.state.Stage.{Stage}
 use Rattle.run_machine.specs.declared.state.Held.{Held}
 use Rattle.run_machine.specs.declared.state.Machine.{Machine}
 use Rattle.run_machine.specs.Stages.{stopping, movedBy}
-use Rattle.run_machine.specs.Given.{Given, text, Agreed, Goes, OfSome}
-use Rattle.run_machine.specs.Holds.{Running, afterChunk, Tallies, toRead, Handing, Wanting, Writing, passSteps, wantSteps}
-use Rattle.run_machine.specs.Steps.{Nearer, StepsFrom, HandsOver, EntersSecond, EndsSecond, Finishes, GoesOn}
+use Rattle.run_machine.specs.Given.{Given, Goes, OfSome}
+use Rattle.run_machine.specs.Holds.{afterChunk, Tallies, toRead, Wanting, Writing, passSteps, wantSteps}
+use Rattle.run_machine.specs.Steps.{StepsFrom, HandsOver, EntersSecond, EndsSecond, Finishes, GoesOn}
 use Rattle.run_machine.proofs.TallyCount.{count-all, count-on, none-counted, same-is}
 use Rattle.run_machine.proofs.StopLaws.{stop-steps, running-unfinished, handing-unfinished, nearer-stop}
 

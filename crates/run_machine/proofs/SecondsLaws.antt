@@ -1,8 +1,8 @@
 -- What the seconds asked come to with both files: a refusal's line, or a run that begins. Assumes nothing.
-use Prim.Native.Nat.{ℕ, _+_, _*_, _≤_, _<_}
+use Prim.Native.Nat.{ℕ, _+_, _≤_}
 use mathlib.Core.Path.{_≡_, refl, sym, ap, _∙_, subst}
 use mathlib.Core.Bool.{Bool, true, false}
-use mathlib.Core.List.{List, [], _∷_, _++_, append-nil}
+use mathlib.Core.List.{List, [], append-nil}
 use native.Mathlib.Omega.{arith}
 use native.Mathlib.Decide.{decLe}
 use lib.ListN.{length, take, drop, length-take, take-append-drop}
@@ -10,17 +10,15 @@ use lib.Seq.{take-all, take-append-seam}
 use borrow.Author.Tests.{leb-false}
 use Rattle.rules.specs.declared.answers.Outcome.{Outcome}
 use Rattle.rules.specs.declared.answers.Refusal.{Refusal}
-use Rattle.rules.specs.declared.run.Inputs.{Inputs}
 use Rattle.rules.specs.declared.station.Station.{Station}
 use Rattle.rules.specs.Answers.{Answer, accepted, refused, valueOr}
 use Rattle.rules.specs.StationFile.{stationFile}
-use Rattle.rules.specs.Run.{secondsAsked, printed}
+use Rattle.rules.specs.Run.{secondsAsked}
 use Rattle.rules.proofs.Tests.{never}
 use Rattle.rows.specs.AnswerLine.{refusedLine}
 use Rattle.rows.specs.Written.{TextPut}
 use Rattle.rows.proofs.Room.{put-means, none-means}
 use Rattle.intake.specs.Stations.{stationWith}
-use Rattle.intake.specs.Tally.{noBytes, talliedOf}
 use Rattle.intake.proofs.SecondsAsked.{long-asked}
 use Rattle.samples.specs.declared.check.Checked.{Checked}
 use Rattle.samples.specs.declared.check.Span.{Span}
@@ -29,21 +27,20 @@ use Rattle.samples.specs.Held.{sourceEnded}
 use Rattle.course.specs.Coming as coming
 use Rattle.simulation.specs.declared.state.Phase.{Phase}
 use Rattle.simulation.specs.declared.state.Simulation.{Simulation}
-use Rattle.simulation.specs.Text.{textOf, toPrint}
+use Rattle.simulation.specs.Text.{textOf}
 use Rattle.simulation.specs.Turns.{ComesIn, isBeforeSets, rank, weight}
 use Rattle.simulation.specs.Begin.{Refuses, BegunAs}
 use Rattle.simulation.proofs.Printed.{Starts, CheckedFor, begins-right}
 use Rattle.exchange.specs.declared.action.Why.{Why}
 use Rattle.exchange.specs.declared.event.Event.{Event}
-use Rattle.exchange.specs.World.{World, leftOf, againOf}
-use Rattle.judging.specs.Holds.{Judged}
+use Rattle.exchange.specs.World.{World}
 use Rattle.run_machine.specs.declared.state.Stage.{Stage}
 use Rattle.run_machine.specs.declared.state.Held.{Held}
 use Rattle.run_machine.specs.declared.state.Machine.{Machine}
 use Rattle.run_machine.specs.Stages.{stopping, worksFrom}
-use Rattle.run_machine.specs.Given.{Given, filesOf, text, Goes, OfSome}
-use Rattle.run_machine.specs.Holds.{Asking, Returning, secondsOf, stepsJudged}
-use Rattle.run_machine.specs.Steps.{Nearer, StepsFrom, Answers, Begun}
+use Rattle.run_machine.specs.Given.{Given, text, OfSome}
+use Rattle.run_machine.specs.Holds.{Asking, secondsOf}
+use Rattle.run_machine.specs.Steps.{StepsFrom, Answers, Begun}
 use Rattle.run_machine.proofs.StopLaws.{none-stop}
 
 -- ---- the argument SECONDS: a buffer of ten bytes tells all of it that matters

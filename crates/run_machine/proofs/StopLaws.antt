@@ -23,7 +23,7 @@ use Rattle.exchange.specs.declared.action.Why.{Why}
 use Rattle.exchange.specs.declared.action.Word.{Word}
 use Rattle.exchange.specs.declared.event.Event.{Event}
 use Rattle.exchange.specs.Existing.{isFailed}
-use Rattle.exchange.specs.World.{World, leftOf, bufferEnd, Fits, FitsDone, after, afterRead, afterRewind, afterWrite}
+use Rattle.exchange.specs.World.{World, leftOf, bufferEnd, Fits, FitsDone, after, afterRewind, afterWrite}
 use Rattle.exchange.specs.Events.{Begins}
 use Rattle.exchange.proofs.Expected.{isExpected, unexpected, read-within, argument-within}
 use Rattle.judging.specs.Stages.{judgeAsks}
@@ -32,8 +32,8 @@ use Rattle.run_machine.specs.declared.state.Stage.{Stage}
 use Rattle.run_machine.specs.declared.state.Held.{Held}
 use Rattle.run_machine.specs.declared.state.Machine.{Machine}
 use Rattle.run_machine.specs.Stages.{asks, asksOf, stopping}
-use Rattle.run_machine.specs.Given.{Given, filesOf, text, Agreed, Goes, OfSome, SetsToCome, Sets}
-use Rattle.run_machine.specs.Holds.{Running, Handing, toRead, Tallies, Writing, Answering, Unfinished, Stopped, HoldsAt, Holds, stepsAt, stepsLeft}
+use Rattle.run_machine.specs.Given.{Given, text, Goes, OfSome, SetsToCome, Sets}
+use Rattle.run_machine.specs.Holds.{Running, Handing, Tallies, Unfinished, Stopped, HoldsAt, stepsAt, stepsLeft}
 use Rattle.run_machine.specs.Steps.{Well, Nearer, Steps, StepsFrom}
 
 -- ---- a text begins so

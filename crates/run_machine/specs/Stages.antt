@@ -1,5 +1,4 @@
 -- What each stage asks for, and what changes where something was done or failed.
-use Prim.Native.Nat.{ℕ}
 use mathlib.Core.Bool.{true}
 use Rattle.simulation.specs.declared.state.Simulation.{Simulation}
 use Rattle.exchange.specs.declared.action.Action.{Action}

@@ -1,4 +1,5 @@
 // How the program was called, and the reading of both files that follows.
+ghost use mathlib.Core.Path.{_≡_};
 ghost use Rattle.run_machine.specs.declared.state.Stage.{Stage};
 ghost use Rattle.run_machine.specs.Steps.{CallsWith, Tells, Names, StepsFrom};
 use crate::state::Held;
@@ -112,5 +113,3 @@ fn reading(held: Held) -> Machine
         held,
     }
 }
-
-ghost use mathlib.Core.Path.{_≡_};

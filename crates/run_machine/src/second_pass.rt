@@ -1,4 +1,5 @@
 // The second pass over the sample file: its bytes are handed to the run, and held against those of the first.
+ghost use mathlib.Core.Path.{_≡_};
 ghost use Rattle.run_machine.specs.declared.state.Stage.{Stage};
 ghost use Rattle.run_machine.specs.Steps.{EntersSecond, EndsSecond, StepsFrom};
 use crate::hand_over::hand_over;
@@ -19,8 +20,6 @@ fn first_tally(held: Held) -> Tally
     let read = judging.held;
     read.tally
 }
-
-ghost use mathlib.Core.Path.{_≡_};
 
 // A file that is longer than before ends the reading, so that one that grows as fast as it is read does too.
 fn second_chunk(held: Held, size: usize, chunk: &[u8], buf: &[u8], out: &mut [u8]) -> Machine

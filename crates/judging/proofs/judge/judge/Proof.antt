@@ -1,12 +1,10 @@
 -- THE STEP meets its contract. Assumes nothing.
 use Rattle.judging.proofs.StepLaws.{open-station, open-samples, to-start}
 use Rattle.judging.specs.Holds.{JudgesFrom}
-use Rattle.judging.specs.declared.state.Judging.{Judging}
-use mathlib.Core.Path.{subst}
+use mathlib.Core.Path.{subst, refl, sym}
 use Rattle.judging.specs.declared.state.JudgeStage.{JudgeStage}
-use Rattle.judging.proofs.StopLaws.{stop-steps, at-event, at-stage}
+use Rattle.judging.proofs.StopLaws.{stop-steps, at-stage}
 use denote.Ref.{now}
-use mathlib.Core.Path.{_≡_, refl, sym, ap, _∙_}
 use borrow.Author.Needs.{needs}
 use Rattle.judging.proofs.judge.judge.Statement.{statement}
 use Rattle.judging.proofs.judge.judge.Tie as tie

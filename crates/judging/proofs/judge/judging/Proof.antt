@@ -1,6 +1,6 @@
 -- `judging` meets its contract. Assumes nothing.
 use Rattle.judging.proofs.StepLaws.{nothing-read}
-use mathlib.Core.Path.{_≡_, refl, sym, ap, _∙_}
+use mathlib.Core.Path.{refl}
 use borrow.Author.Needs.{needs}
 use Rattle.judging.proofs.judge.judging.Statement.{statement}
 use Rattle.judging.proofs.judge.judging.Tie as tie

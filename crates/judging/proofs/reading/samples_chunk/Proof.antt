@@ -1,7 +1,7 @@
 -- `samples_chunk` meets its contract. Assumes nothing.
 use Rattle.judging.proofs.SampleLaws.{samples-enter, samples-cut}
 use denote.Ref.{now}
-use mathlib.Core.Path.{_≡_, refl, sym, ap, _∙_}
+use mathlib.Core.Path.{sym, _∙_}
 use borrow.Author.Needs.{needs}
 use Rattle.judging.proofs.reading.samples_chunk.Statement.{statement}
 use Rattle.judging.proofs.reading.samples_chunk.Tie as tie

@@ -5,7 +5,7 @@ use Rattle.judging.proofs.StopLaws.{stop-steps, short-stop, at-event}
 use lib.ListN.{length-take}
 use native.Mathlib.Omega.{arith}
 use denote.Ref.{now}
-use mathlib.Core.Path.{_≡_, refl, sym, ap, _∙_}
+use mathlib.Core.Path.{refl}
 use borrow.Author.Needs.{needs}
 use Rattle.judging.proofs.reading.samples_read.Statement.{statement}
 use Rattle.judging.proofs.reading.samples_read.Tie as tie

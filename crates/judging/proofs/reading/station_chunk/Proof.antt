@@ -1,7 +1,6 @@
 -- `station_chunk` meets its contract. Assumes nothing.
 use Rattle.judging.proofs.StationLaws.{station-enters, station-cut}
 use denote.Ref.{now}
-use mathlib.Core.Path.{_≡_, refl, sym, ap, _∙_}
 use borrow.Author.Needs.{needs}
 use Rattle.judging.proofs.reading.station_chunk.Statement.{statement}
 use Rattle.judging.proofs.reading.station_chunk.Tie as tie

@@ -1,6 +1,6 @@
 -- `station_judged` meets its contract. Assumes nothing.
 use Rattle.judging.proofs.StationLaws.{station-refused, station-accepted}
-use mathlib.Core.Path.{_≡_, refl, sym, ap, _∙_}
+use mathlib.Core.Path.{sym, _∙_}
 use borrow.Author.Needs.{needs}
 use Rattle.judging.proofs.reading.station_judged.Statement.{statement}
 use Rattle.judging.proofs.reading.station_judged.Tie as tie

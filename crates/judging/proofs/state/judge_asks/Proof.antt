@@ -1,5 +1,4 @@
 -- `judge_asks` meets its contract. Assumes nothing.
-use mathlib.Core.Path.{_≡_, refl, sym, ap, _∙_}
 use borrow.Author.Needs.{needs}
 use Rattle.judging.proofs.state.judge_asks.Statement.{statement}
 use Rattle.judging.proofs.state.judge_asks.Tie as tie

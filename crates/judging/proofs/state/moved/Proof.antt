@@ -1,5 +1,4 @@
 -- `moved` meets its contract. Assumes nothing.
-use mathlib.Core.Path.{_≡_, refl, sym, ap, _∙_}
 use borrow.Author.Needs.{needs}
 use Rattle.judging.proofs.state.moved.Statement.{statement}
 use Rattle.judging.proofs.state.moved.Tie as tie

@@ -1,8 +1,5 @@
 -- `called` meets its contract. Assumes nothing.
 use Rattle.run_machine.proofs.CallingLaws.{plain-call, word-call, wrong-call}
-use mathlib.Core.Path.{_≡_, refl, sym, ap, _∙_, subst}
-use native.Mathlib.Omega.{arith}
-use Rattle.run_machine.specs.declared.state.Stage.{Stage}
 use borrow.Author.Needs.{needs}
 use Rattle.run_machine.proofs.calling.called.Statement.{statement}
 use Rattle.run_machine.proofs.calling.called.Tie as tie

@@ -6,9 +6,8 @@ use Rattle.judging.specs.declared.state.JudgeStage.{JudgeStage}
 use Rattle.judging.specs.Stages.{judgeAsks}
 use Rattle.run_machine.specs.declared.state.Machine.{Machine}
 use Rattle.run_machine.specs.declared.state.Stage.{Stage}
-use Rattle.run_machine.proofs.StopLaws.{stop-steps, at-event, at-stage}
 use denote.Ref.{now}
-use mathlib.Core.Path.{_≡_, refl, sym, ap, _∙_, subst}
+use mathlib.Core.Path.{sym, ap, subst}
 use borrow.Author.Needs.{needs}
 use Rattle.run_machine.proofs.calling.judged.Statement.{statement}
 use Rattle.run_machine.proofs.calling.judged.Tie as tie

@@ -1,8 +1,6 @@
 -- `named` meets its contract. Assumes nothing.
 use Rattle.run_machine.proofs.CallingLaws.{told-call, untold-call}
-use mathlib.Core.Path.{_≡_, refl, sym, ap, _∙_, subst}
 use borrow.Author.Tests.{not-true}
-use Rattle.run_machine.specs.declared.state.Stage.{Stage}
 use borrow.Author.Needs.{needs}
 use Rattle.run_machine.proofs.calling.named.Statement.{statement}
 use Rattle.run_machine.proofs.calling.named.Tie as tie

@@ -1,9 +1,9 @@
 -- `telling` meets its contract. Assumes nothing.
 use Rattle.run_machine.proofs.CallingLaws.{tell-steps}
 use Rattle.run_machine.specs.declared.state.Stage.{Stage}
-use Rattle.run_machine.proofs.StopLaws.{stop-steps, at-event, at-stage}
+use Rattle.run_machine.proofs.StopLaws.{stop-steps, at-event}
 use denote.Ref.{now}
-use mathlib.Core.Path.{_≡_, refl, sym, ap, _∙_, subst}
+use mathlib.Core.Path.{refl}
 use borrow.Author.Needs.{needs}
 use Rattle.run_machine.proofs.calling.telling.Statement.{statement}
 use Rattle.run_machine.proofs.calling.telling.Tie as tie

@@ -1,9 +1,8 @@
 -- `finished` meets its contract. Assumes nothing.
-use Rattle.simulation.specs.declared.state.Phase.{Phase}
 use Rattle.run_machine.specs.Steps.{isOver}
 use Rattle.run_machine.proofs.HandingLaws.{complete-finishes, broken-stops, unended-stops}
 use borrow.Author.Tests.{not-true, not-false}
-use mathlib.Core.Path.{_≡_, refl, sym, ap, _∙_, subst}
+use mathlib.Core.Path.{sym, ap, _∙_}
 use borrow.Author.Needs.{needs}
 use Rattle.run_machine.proofs.hand_over.finished.Statement.{statement}
 use Rattle.run_machine.proofs.hand_over.finished.Tie as tie

@@ -3,7 +3,7 @@ use Rattle.run_machine.proofs.HandingLaws.{call-hands, handing-stops}
 use lib.ListN.{length-take}
 use native.Mathlib.Omega.{arith}
 use denote.Ref.{now}
-use mathlib.Core.Path.{_≡_, refl, sym, ap, _∙_, subst}
+use mathlib.Core.Path.{refl}
 use borrow.Author.Needs.{needs}
 use Rattle.run_machine.proofs.hand_over.hand_over.Statement.{statement}
 use Rattle.run_machine.proofs.hand_over.hand_over.Tie as tie

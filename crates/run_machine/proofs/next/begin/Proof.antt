@@ -1,7 +1,5 @@
 -- `begin` meets its contract. Assumes nothing.
 use Rattle.run_machine.proofs.CallingLaws.{opens-so}
-use native.Mathlib.Omega.{arith}
-use mathlib.Core.Path.{_≡_, refl, sym, ap, _∙_, subst}
 use borrow.Author.Needs.{needs}
 use Rattle.run_machine.proofs.next.begin.Statement.{statement}
 use Rattle.run_machine.proofs.next.begin.Tie as tie

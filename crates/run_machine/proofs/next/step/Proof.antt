@@ -3,9 +3,9 @@ use Rattle.run_machine.proofs.SecondPassLaws.{to-second-pass, answer-st
 use Rattle.run_machine.specs.Steps.{StepsFrom}
 use Rattle.run_machine.specs.declared.state.Machine.{Machine}
 use Rattle.run_machine.specs.declared.state.Stage.{Stage}
-use Rattle.run_machine.proofs.StopLaws.{stop-steps, at-event, at-stage}
+use Rattle.run_machine.proofs.StopLaws.{stop-steps, at-stage}
 use denote.Ref.{now}
-use mathlib.Core.Path.{_≡_, refl, sym, ap, _∙_, subst}
+use mathlib.Core.Path.{refl, sym, subst}
 use borrow.Author.Needs.{needs}
 use Rattle.run_machine.proofs.next.step.Statement.{statement}
 use Rattle.run_machine.proofs.next.step.Tie as tie

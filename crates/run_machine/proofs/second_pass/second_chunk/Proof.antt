@@ -1,7 +1,6 @@
 -- `second_chunk` meets its contract. Assumes nothing.
 use Rattle.run_machine.proofs.SecondPassLaws.{second-enters, entering-stops}
 use denote.Ref.{now}
-use mathlib.Core.Path.{_≡_, refl, sym, ap, _∙_, subst}
 use borrow.Author.Needs.{needs}
 use Rattle.run_machine.proofs.second_pass.second_chunk.Statement.{statement}
 use Rattle.run_machine.proofs.second_pass.second_chunk.Tie as tie

@@ -2,7 +2,7 @@
 use Rattle.run_machine.proofs.SecondPassLaws.{second-ends, ending-stops}
 use borrow.Author.Tests.{not-true, not-false}
 use denote.Ref.{now}
-use mathlib.Core.Path.{_≡_, refl, sym, ap, _∙_, subst}
+use mathlib.Core.Path.{sym, _∙_}
 use borrow.Author.Needs.{needs}
 use Rattle.run_machine.proofs.second_pass.second_end.Statement.{statement}
 use Rattle.run_machine.proofs.second_pass.second_end.Tie as tie

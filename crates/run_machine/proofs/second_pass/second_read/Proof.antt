@@ -5,7 +5,7 @@ use Rattle.run_machine.proofs.StopLaws.{stop-steps, short-read, at-even
 use lib.ListN.{length-take}
 use native.Mathlib.Omega.{arith}
 use denote.Ref.{now}
-use mathlib.Core.Path.{_≡_, refl, sym, ap, _∙_, subst}
+use mathlib.Core.Path.{refl}
 use borrow.Author.Needs.{needs}
 use Rattle.run_machine.proofs.second_pass.second_read.Statement.{statement}
 use Rattle.run_machine.proofs.second_pass.second_read.Tie as tie

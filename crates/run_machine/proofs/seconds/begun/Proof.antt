@@ -3,7 +3,7 @@ use Rattle.run_machine.proofs.SecondsLaws.{refusal-begun, run-begun, be
 use Rattle.run_machine.specs.Steps.{Begun}
 use Rattle.run_machine.specs.declared.state.Machine.{Machine}
 use denote.Ref.{now}
-use mathlib.Core.Path.{_≡_, refl, sym, ap, _∙_, subst}
+use mathlib.Core.Path.{sym, ap, _∙_, subst}
 use borrow.Author.Needs.{needs}
 use Rattle.run_machine.proofs.seconds.begun.Statement.{statement}
 use Rattle.run_machine.proofs.seconds.begun.Tie as tie

@@ -1,7 +1,6 @@
 -- `refused` meets its contract. Assumes nothing.
 use Rattle.run_machine.proofs.SecondsLaws.{refusal-put, refusal-stop}
 use denote.Ref.{now}
-use mathlib.Core.Path.{_≡_, refl, sym, ap, _∙_, subst}
 use borrow.Author.Needs.{needs}
 use Rattle.run_machine.proofs.seconds.refused.Statement.{statement}
 use Rattle.run_machine.proofs.seconds.refused.Tie as tie

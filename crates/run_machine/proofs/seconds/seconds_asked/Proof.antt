@@ -5,7 +5,7 @@ use Rattle.run_machine.proofs.StopLaws.{stop-steps, short-argument, at-
 use lib.ListN.{length-take}
 use native.Mathlib.Omega.{arith}
 use denote.Ref.{now}
-use mathlib.Core.Path.{_≡_, refl, sym, ap, _∙_, subst}
+use mathlib.Core.Path.{refl}
 use borrow.Author.Needs.{needs}
 use Rattle.run_machine.proofs.seconds.seconds_asked.Statement.{statement}
 use Rattle.run_machine.proofs.seconds.seconds_asked.Tie as tie

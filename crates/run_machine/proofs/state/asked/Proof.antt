@@ -1,5 +1,4 @@
 -- `asked` meets its contract. Assumes nothing.
-use mathlib.Core.Path.{_≡_, refl, sym, ap, _∙_, subst}
 use borrow.Author.Needs.{needs}
 use Rattle.run_machine.proofs.state.asked.Statement.{statement}
 use Rattle.run_machine.proofs.state.asked.Tie as tie

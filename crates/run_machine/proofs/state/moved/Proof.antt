@@ -1,5 +1,4 @@
 -- `moved` meets its contract. Assumes nothing.
-use mathlib.Core.Path.{_≡_, refl, sym, ap, _∙_, subst}
 use borrow.Author.Needs.{needs}
 use Rattle.run_machine.proofs.state.moved.Statement.{statement}
 use Rattle.run_machine.proofs.state.moved.Tie as tie

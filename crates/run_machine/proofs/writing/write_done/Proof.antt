@@ -1,7 +1,6 @@
 -- `write_done` meets its contract. Assumes nothing.
 use Rattle.run_machine.proofs.SecondPassLaws.{input-goes, room-goes, nothing-goes, writing-stops}
 use denote.Ref.{now}
-use mathlib.Core.Path.{_≡_, refl, sym, ap, _∙_, subst}
 use borrow.Author.Needs.{needs}
 use Rattle.run_machine.proofs.writing.write_done.Statement.{statement}
 use Rattle.run_machine.proofs.writing.write_done.Tie as tie
