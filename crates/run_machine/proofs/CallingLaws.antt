@@ -24,7 +24,7 @@ use Rattle.run_machine.specs.declared.state.Stage.{Stage}
 use Rattle.run_machine.specs.declared.state.Held.{Held}
 use Rattle.run_machine.specs.declared.state.Machine.{Machine}
 use Rattle.run_machine.specs.Stages.{stopping}
-use Rattle.run_machine.specs.Given.{filesOf, RightCall}
+use Rattle.run_machine.specs.Given.{filesOf, RightCall, Called}
 use Rattle.run_machine.specs.Steps.{StepsFrom, CallsWith, Tells, Names, Opens}
 use Rattle.run_machine.proofs.StopLaws.{none-stop}
 
@@ -42,9 +42,9 @@ opens-so h begun none g w buf out s =
 
 -- ---- how it was called
 
-pub plain-call : (h : Held) (count : ℕ) → CallsWith h count (record { stage = Stage.Judging; held = h })
+pub plain-call : (h : Held) (count : ℕ) → count ≡ 4 → CallsWith h count (record { stage = Stage.Judging; held = h })
 unfolding CallsWith
-plain-call h count g w buf out k is = (k, omega arith, λ well. k .ready)
+plain-call h count four g w buf out k is = ((k, Called.plain (sym is ∙ four)), omega arith, λ well. k .ready)
 
 pub word-call : (h : Held) (count : ℕ) → count ≡ 5 → CallsWith h count (record { stage = Stage.Telling; held = h })
 unfolding CallsWith
@@ -64,12 +64,12 @@ withTold h = record { judging = h .judging; second = h .second; simulation = h .
 
 pub told-call : (h : Held) (told : Bool) → Names h told (record { stage = Stage.Judging; held = withTold h })
 unfolding Names
-told-call h told g w buf out k = (record { ready = k .ready; files = k .files; second = k .second; asked = k .asked; unwritten = k .unwritten }, omega arith, λ well. k .ready)
+told-call h told g w buf out k five = ((record { ready = k .ready; files = k .files; second = k .second; asked = k .asked; unwritten = k .unwritten }, Called.told five), omega arith, λ well. k .ready)
 
 -- another word is no right call
 pub untold-call : (h : Held) (told : Bool) (why : Why) (r : Machine) → told ≡ false → r ≡ stopping h why → Names h told r
 unfolding Names
-untold-call h told why r other stop g w buf out k = none-stop g h w buf out _ _ why r stop (k .unwritten) (omega arith) (λ well. never (sym other ∙ well))
+untold-call h told why r other stop g w buf out k five = none-stop g h w buf out _ _ why r stop (k .unwritten) (omega arith) (λ well. never (sym other ∙ well))
 
 -- ---- the word
 
@@ -117,7 +117,7 @@ take-two n word ten is = take-all n word (let two : length word ≡ 2 = ap lengt
 pub tell-steps : (h : Held) (n : ℕ) (told : Bool) (buf out out′ : List ℕ) (r : Machine) → Tells buf n told → Names h told r → StepsFrom Stage.Telling h (Event.Read n) buf out r out′
 unfolding StepsFrom Tells Names
 tell-steps h n told buf out out′ r tells names g w before some o f ten roomy =
-    let k = names g w buf out′ (o .0) in
+    let k = names g w buf out′ (o .0) (o .1) in
     (k .0, k .1, λ well. k .2 (tells (f .0 .0) (f .0 .1 ∙ take-two (length buf) (w .arguments 4) ten (word-is (w .count) (w .arguments 4) (o .1) (well .call)))))
 
 -- ---- the files inside the program
@@ -131,15 +131,18 @@ module _ (h : Held) (e : Event) (buf out out′ : List ℕ) (j : Judging) (judge
   pub read-on-steps : givesUp (judgeAsks (j .stage)) ≡ false → StepsFrom Stage.Judging h e buf out (record { stage = Stage.Judging; held = withJudging h j }) out′
   unfolding StepsFrom JudgesFrom
   read-on-steps ready g w before some o f ten roomy =
-      let k = judges (filesOf g) w before out some (o .files) f in
+      let k = judges (filesOf g) w before out some (o .0 .files) f in
       let nearer = k .1 in (
-        record {
-          ready = ready;
-          files = k .0;
-          second = o .second;
-          asked = ap (λ (a : ℕ → List ℕ). a 3) (judging-keeps-arguments (h .judging .stage) e some w out .1) ∙ o .asked;
-          unwritten = judging-writes-nothing (h .judging .stage) e some w out ∙ o .unwritten;
-        },
+        (
+          record {
+            ready = ready;
+            files = k .0;
+            second = o .0 .second;
+            asked = ap (λ (a : ℕ → List ℕ). a 3) (judging-keeps-arguments (h .judging .stage) e some w out .1) ∙ o .0 .asked;
+            unwritten = judging-writes-nothing (h .judging .stage) e some w out ∙ o .0 .unwritten;
+          },
+          subst Called (sym (judging-keeps-arguments (h .judging .stage) e some w out .0)) (o .1),
+        ),
         omega (arith, nearer),
         λ well. ready,
       )
@@ -148,13 +151,14 @@ module _ (h : Held) (e : Event) (buf out out′ : List ℕ) (j : Judging) (judge
   pub judged-steps : j .stage ≡ JudgeStage.Judged → StepsFrom Stage.Judging h e buf out (record { stage = Stage.AskSeconds; held = withJudging h j }) out′
   unfolding StepsFrom JudgesFrom
   judged-steps is g w before some o f ten roomy =
-      let k = judges (filesOf g) w before out some (o .files) f in
+      let k = judges (filesOf g) w before out some (o .0 .files) f in
       let nearer = k .1 in (
         record {
+          called = subst Called (sym (judging-keeps-arguments (h .judging .stage) e some w out .0)) (o .1);
           files = subst (λ (stage : JudgeStage). JudgeHoldsAt stage (filesOf g) (j .held) (after (judgeAsks (h .judging .stage)) e some w out)) is (k .0);
-          second = o .second;
-          asked = ap (λ (a : ℕ → List ℕ). a 3) (judging-keeps-arguments (h .judging .stage) e some w out .1) ∙ o .asked;
-          unwritten = judging-writes-nothing (h .judging .stage) e some w out ∙ o .unwritten;
+          second = o .0 .second;
+          asked = ap (λ (a : ℕ → List ℕ). a 3) (judging-keeps-arguments (h .judging .stage) e some w out .1) ∙ o .0 .asked;
+          unwritten = judging-writes-nothing (h .judging .stage) e some w out ∙ o .0 .unwritten;
         },
         omega (arith, nearer),
         λ well. refl,
@@ -164,6 +168,6 @@ module _ (h : Held) (e : Event) (buf out out′ : List ℕ) (j : Judging) (judge
   pub unread-steps : (why why′ : Why) (r : Machine) → j .stage ≡ JudgeStage.Stopped why → r ≡ stopping (withJudging h j) why′ → StepsFrom Stage.Judging h e buf out r out′
   unfolding StepsFrom JudgesFrom
   unread-steps why why′ r is stop g w before some o f ten roomy =
-      let k = judges (filesOf g) w before out some (o .files) f in
-      none-stop g (withJudging h j) (after (judgeAsks (h .judging .stage)) e some w out) buf out′ _ _ why′ r stop (judging-writes-nothing (h .judging .stage) e some w out ∙ o .unwritten) (omega arith)
+      let k = judges (filesOf g) w before out some (o .0 .files) f in
+      none-stop g (withJudging h j) (after (judgeAsks (h .judging .stage)) e some w out) buf out′ _ _ why′ r stop (judging-writes-nothing (h .judging .stage) e some w out ∙ o .0 .unwritten) (omega arith)
       (λ well. never (sym (k .2 (well .event)) ∙ ap isStopped is))

@@ -97,6 +97,7 @@ call-hands h buf chunk out t out′ is c g w roomy k =
     let d : Called (h .simulation) (take (h .chunk) buf) (h .at) (h .ended) out t out′ = subst (λ (l : List ℕ). Called (h .simulation) l (h .at) (h .ended) out t out′) is c in (
       record {
         handing = record {
+          called = k .called;
           goes = λ same. goes-on g (h .simulation) (take (h .chunk) buf) (h .at) (h .ended) out t out′ (afterChunk (h .ended) (leftOf w 2)) (w .written) d (after-end (h .ended) (leftOf w 2)) (k .goes same);
           within = k .within;
           tallies = tallies-on (h .ended) g (h .judging .held .tally) (h .second) (leftOf w 2) (h .simulation) (take (h .chunk) buf) (h .at) out t out′ (w .written) d (k .tallies);
@@ -139,6 +140,7 @@ complete-finishes h e d g w buf out k fin = (
   (
     λ same. all-written g (h .simulation) (toRead h w buf) (w .written) e (k .goes same),
     agreed-by (h .ended) g (h .judging .held .tally) (h .second) (leftOf w 2) (h .simulation) (w .written) d (k .tallies),
+    k .called,
   ),
   omega arith,
   λ well. refl,

@@ -27,7 +27,7 @@ use Rattle.run_machine.specs.declared.state.Stage.{Stage}
 use Rattle.run_machine.specs.declared.state.Held.{Held}
 use Rattle.run_machine.specs.declared.state.Machine.{Machine}
 use Rattle.run_machine.specs.Stages.{asks, asksOf}
-use Rattle.run_machine.specs.Given.{Given, text, Agreed, Sets}
+use Rattle.run_machine.specs.Given.{Given, text, Called, Agreed, Sets}
 use Rattle.run_machine.specs.Holds.{Stopped, HoldsAt, Holds, stepsLeft, secondsOf}
 use Rattle.run_machine.specs.Steps.{Steps, Starting, Opens}
 use Rattle.run_machine.proofs.StopLaws.{so-far}
@@ -96,10 +96,11 @@ at-stop (Stage.Stop this) word g h w buf out some is k = subst (λ (x : Word). S
 pub record Prints (g : Given) (n : ℕ) (last : Machine) (end : World) : Type 0 where
   -- what was written, in order, begins what document 01 prints, where both passes read the same bytes
   pub begins : g .again ≡ g .samples → Begins (text g) (end .written)
-  -- and is all of it where the program asks to stop with `Complete`; that comes only after both passes' tallies agreed
-  pub complete : Asked last (Action.Stop Word.Complete) → (g .again ≡ g .samples → end .written ≡ text g) × Agreed g
+  -- and is all of it where the program asks to stop with `Complete`; that comes only after both passes' tallies agreed, and of a program
+  -- that was called with three arguments, or with four
+  pub complete : Asked last (Action.Stop Word.Complete) → (g .again ≡ g .samples → end .written ≡ text g) × Agreed g × Called (end .count)
   -- or with a refusal, whatever a second pass would have read: the line of that one
-  pub refused : (r : Refusal) → Asked last (Action.Stop (Word.Refused r)) → (end .written ≡ text g) × (text g ≡ refusedLine r)
+  pub refused : (r : Refusal) → Asked last (Action.Stop (Word.Refused r)) → (end .written ≡ text g) × (text g ≡ refusedLine r) × Called (end .count)
   -- whatever both passes read: what was written is how a refusal begins, or every set's line is still to come, or the tallies agreed
   pub sets : Sets g (end .written)
   -- the stop comes in so few steps: each brings a byte, a second or the end nearer, but for 27

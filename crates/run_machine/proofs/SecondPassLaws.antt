@@ -45,6 +45,7 @@ unfolding HandsOver EntersSecond
 second-enters h n chunk buf out out′ t r is hands g w roomy within c k =
     let m = hands g w roomy
     (record {
+      called = k .called;
       goes = λ same. subst (λ (l : List ℕ). Goes g (h .simulation) (l ++ leftOf w 2) (w .written)) c (k .goes same);
       within = within;
       tallies = (
@@ -79,7 +80,7 @@ pub second-ends : (h : Held) (buf out out′ : List ℕ) (first : Tally) (r : Ma
     → EndsSecond h buf out r out′
 unfolding talliedOf HandsOver EndsSecond
 second-ends h buf out out′ first r is e hands g w roomy k =
-    let m = hands g w roomy (record { goes = k .goes; within = omega arith; tallies = sym (k .second) ∙ sym (tally-is first (h .second) e) ∙ is ∙ k .first }) in
+    let m = hands g w roomy (record { called = k .called; goes = k .goes; within = omega arith; tallies = sym (k .second) ∙ sym (tally-is first (h .second) e) ∙ is ∙ k .first }) in
     (m .0, let less = m .1 in omega (arith, less), λ same. m .2 tt)
 
 -- and has the same tally
@@ -99,6 +100,7 @@ second-read-steps h n buf chunk out out′ r is enters g w before some o f ten r
     let fewer : length (drop n (leftOf w 2)) < length (leftOf w 2) = less-left n buf (leftOf w 2) (f .0 .0) (let h = f .0 .1 in omega (arith, h)) (f .0 .2) in
     let k = enters g w′ roomy (let h = f .0 .1 in omega (arith, h)) is
     (record {
+      called = o .called;
       goes = λ same. subst (λ (l : List ℕ). Goes g (h .simulation) l (w .written)) left (o .goes same);
       rows = o .rows;
       first = o .first;
@@ -112,6 +114,7 @@ unfolding StepsFrom EndsSecond
 second-end-steps h buf out out′ r ends g w before some o f ten roomy =
     let k = ends g w roomy
     (record {
+      called = o .called;
       goes = λ same. subst (λ (l : List ℕ). Goes g (h .simulation) l (w .written)) (f .0) (o .goes same);
       rows = o .rows;
       first = o .first;
@@ -127,6 +130,7 @@ to-second-pass h Event.Done buf out g w before some o f ten roomy =
     let left : leftIn (againOf w 2) ≡ g .again = ap leftIn (o .passes) in
     let same : length (leftIn (againOf w 2)) ≡ length (g .again) = ap length left in (
       record {
+        called = o .called;
         goes = λ eq. subst (λ (l : List ℕ). Goes g (h .simulation) l (w .written)) (sym left) (subst (λ (l : List ℕ). Goes g (h .simulation) (g .again) l) (sym (o .unwritten)) (o .goes eq));
         rows = subst (OfSome (h .simulation)) (sym (o .unwritten)) (o .rows);
         first = o .first;
@@ -161,6 +165,7 @@ input-goes h wanted buf out out′ is g w roomy k wanting =
     let base : passSteps (h .ended) (leftOf w 2) ≡ 3 * length (leftOf w 2) + 3 = ap (λ (b : Bool). passSteps b (leftOf w 2)) (wants .1) in
     let one : wantSteps wanted ≡ 1 = ap wantSteps is in (
       record {
+        called = k .called;
         goes = λ same. subst (λ (l : List ℕ). Goes g (h .simulation) l (w .written)) left (k .goes same);
         rows = t .2;
         first = t .0;
@@ -203,14 +208,14 @@ pub write-steps : (h : Held) (size : ℕ) (wants : Wants) (buf out out′ : List
 unfolding StepsFrom GoesOn
 write-steps h size wants buf out out′ r on g w before some o f ten roomy =
     let q : Writing g h w size wants buf out = subst (λ (l : List ℕ). Writing g h w size wants l out) (sym (f .1)) o in
-    let k = on g (withWritten w (take size out)) roomy (record { goes = q .handing .goes; within = q .handing .within; tallies = q .handing .tallies }) (q .wanting) in
+    let k = on g (withWritten w (take size out)) roomy (record { called = q .handing .called; goes = q .handing .goes; within = q .handing .within; tallies = q .handing .tallies }) (q .wanting) in
     (k .0, k .1, λ well. k .2 (well .same))
 
 -- ---- a refusal's line was written
 
 pub answer-steps : (h : Held) (size : ℕ) (refusal : Refusal) (e : Event) (buf out : List ℕ) → StepsFrom (Stage.Answer size refusal) h e buf out (movedBy e h (Stage.Stop (Word.Refused refusal)) Why.Unwritten) out
 unfolding StepsFrom
-answer-steps h size refusal Event.Done buf out g w before some o f ten roomy = ((ap (λ (l : List ℕ). l ++ take size out) (o .unwritten) ∙ o .line, o .carried), omega arith, λ well. refl)
+answer-steps h size refusal Event.Done buf out g w before some o f ten roomy = ((ap (λ (l : List ℕ). l ++ take size out) (o .unwritten) ∙ o .line, o .carried, o .called), omega arith, λ well. refl)
 answer-steps h size refusal (Event.Count n) buf out g w before some o f ten roomy = absurd (f .0)
 answer-steps h size refusal (Event.Read n) buf out g w before some o f ten roomy = absurd (f .0)
 answer-steps h size refusal Event.End buf out g w before some o f ten roomy = absurd (f .0)

@@ -64,13 +64,13 @@ line-put line lent answer size left is t =
 pub refusal-put : (h : Held) (refusal : Refusal) (out : List ℕ) (answer : Outcome) (size : ℕ) (out′ : List ℕ) → answer ≡ Outcome.Row size → TextPut (refusedLine refusal) out answer out′
     → Answers h refusal out (record { stage = Stage.Answer size refusal; held = h }) out′
 unfolding Answers
-refusal-put h refusal out answer size out′ told put g w buf roomy is none = (record { line = line-put (refusedLine refusal) out answer size out′ told put ∙ sym is; carried = is; unwritten = none }, omega arith, λ well. refl)
+refusal-put h refusal out answer size out′ told put g w buf roomy is called none = (record { called = called; line = line-put (refusedLine refusal) out answer size out′ told put ∙ sym is; carried = is; unwritten = none }, omega arith, λ well. refl)
 
 -- a buffer of 256 bytes has room for it
 pub refusal-stop : (h : Held) (refusal : Refusal) (out : List ℕ) (answer : Outcome) (refused-so : Refusal) (out′ : List ℕ) (why : Why) (r : Machine) → answer ≡ Outcome.Refused refused-so → TextPut (refusedLine refusal) out answer out′
     → r ≡ stopping h why → Answers h refusal out r out′
 unfolding Answers
-refusal-stop h refusal out answer refused-so out′ why r told put stop g w buf roomy is none =
+refusal-stop h refusal out answer refused-so out′ why r told put stop g w buf roomy is called none =
     none-stop g h w buf out′ 2 _ why r stop none (omega arith)
     (λ well. let small = leb-false 256 (length out) (none-means (refusedLine refusal) out answer refused-so out′ told put .0) in omega (arith, small, roomy))
 
@@ -101,7 +101,7 @@ unfolding Answers Begun textOf
 refusal-begun h asked out out′ v s refusal r is b e answers g w buf roomy a same =
     let st = starts g h w s a (begun-as g h w asked v s a same is b) in
     let all : text g ≡ refusedLine refusal = sym (st .text-is) ∙ ap (λ (p : Phase). textOf p (s .course .station) (s .course .run) (st .inputs)) e in
-    let k = answers g w buf roomy all (a .unwritten) in
+    let k = answers g w buf roomy all (a .called) (a .unwritten) in
     (k .0, let less = k .1 in omega (arith, less), k .2)
 
 -- a run that is not refused was accepted by both files
@@ -163,6 +163,7 @@ run-begun h asked out out′ v s is b e g w buf roomy a same =
     let ok = accepts (stationFile (g .station)) (checkedWith (h .judging .held .check) []) (secondsAsked (g .asked)) s begun e in
     let few = heading-weight s (secondsOf (g .asked)) (ok .phase-is) (ok .left-is) in (
       record {
+        called = a .called;
         goes = λ eq. record { inputs = st .inputs; come = subst (λ (l : List ℕ). ComesIn (s .phase) s l (st .inputs)) (sym eq) (st .come); text-is = st .text-is };
         rows = heading-rows s (ok .phase-is);
         first = a .files .tally (ok .st) (ok .span) (ok .station-is) (ok .span-is);

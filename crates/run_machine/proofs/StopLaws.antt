@@ -157,7 +157,7 @@ stops : (stage : Stage) (g : Given) (h : Held) (w : World) (before buf out : Lis
 stops Stage.Counting g h w before buf out e some o f = none-written g (w .written) (o .unwritten)
 stops Stage.Telling g h w before buf out e some o f = none-written g (w .written) (o .0 .unwritten)
 stops Stage.Judging g h w before buf out e some o f =
-    none-written g (after (judgeAsks (h .judging .stage)) e some w out .written) (judging-writes-nothing (h .judging .stage) e some w out ∙ o .unwritten)
+    none-written g (after (judgeAsks (h .judging .stage)) e some w out .written) (judging-writes-nothing (h .judging .stage) e some w out ∙ o .0 .unwritten)
 stops Stage.AskSeconds g h w before buf out e some o f = none-written g (w .written) (o .unwritten)
 stops Stage.ToSecondPass g h w before buf out e some o f = none-written g (afterRewind e 2 w .written) (rewind-frame e 2 w .written ∙ o .unwritten)
 stops Stage.SecondPass g h w before buf out e some o f = subst (Unfinished g) (sym (read-frame e 2 w .written)) (running-unfinished g h w (leftOf w 2) o)
@@ -245,7 +245,7 @@ by-word (Word.Nothing why) g w k = k
 pub so-far : (stage : Stage) (g : Given) (h : Held) (w : World) (buf out : List ℕ) → HoldsAt stage g h w buf out → Unfinished g (w .written)
 so-far Stage.Counting g h w buf out o = none-written g (w .written) (o .unwritten)
 so-far Stage.Telling g h w buf out o = none-written g (w .written) (o .0 .unwritten)
-so-far Stage.Judging g h w buf out o = none-written g (w .written) (o .unwritten)
+so-far Stage.Judging g h w buf out o = none-written g (w .written) (o .0 .unwritten)
 so-far Stage.AskSeconds g h w buf out o = none-written g (w .written) (o .unwritten)
 so-far Stage.ToSecondPass g h w buf out o = none-written g (w .written) (o .unwritten)
 so-far Stage.SecondPass g h w buf out o = running-unfinished g h w (leftOf w 2) o

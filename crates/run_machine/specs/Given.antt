@@ -40,6 +40,11 @@ pub data RightCall (count : ℕ) (word : List ℕ) : Type 0 where
   plain : count ≡ 4 → RightCall count word
   told : count ≡ 5 → word ≡ 45 ∷ 51 ∷ [] → RightCall count word
 
+-- with so many arguments, the program's own name among them, and whether the word is among them
+pub data Called (count : ℕ) : Type 0 where
+  plain : count ≡ 4 → Called count
+  told : count ≡ 5 → Called count
+
 -- both passes came to the same tally
 abbrev pub Agreed : Given → Type 0
 Agreed g = talliedOf noBytes (g .again) ≡ talliedOf noBytes (g .samples)

@@ -23,7 +23,7 @@ use Rattle.judging.specs.Holds.{Judged, JudgeHolds, judgeSteps}
 use Rattle.run_machine.specs.declared.state.Stage.{Stage}
 use Rattle.run_machine.specs.declared.state.Held.{Held}
 use Rattle.run_machine.specs.declared.state.Machine.{Machine}
-use Rattle.run_machine.specs.Given.{Given, filesOf, text, Agreed, Goes, OfSome, Sets}
+use Rattle.run_machine.specs.Given.{Given, filesOf, text, Called, Agreed, Goes, OfSome, Sets}
 
 -- until both files are judged
 pub record Reading (g : Given) (h : Held) (w : World) : Type 0 where
@@ -36,6 +36,7 @@ pub record Reading (g : Given) (h : Held) (w : World) : Type 0 where
 
 -- both files are judged, or the station is refused
 pub record Asking (g : Given) (h : Held) (w : World) : Type 0 where
+  pub called : Called (w .count)
   pub files : Judged (filesOf g) (h .judging .held) w
   pub second : h .second ≡ noBytes
   pub asked : w .arguments 3 ≡ g .asked
@@ -43,6 +44,7 @@ pub record Asking (g : Given) (h : Held) (w : World) : Type 0 where
 
 -- before the second pass
 pub record Returning (g : Given) (h : Held) (w : World) : Type 0 where
+  pub called : Called (w .count)
   pub goes : g .again ≡ g .samples → Goes g (h .simulation) (g .again) []
   pub rows : OfSome (h .simulation) []
   pub first : h .judging .held .tally ≡ talliedOf noBytes (g .samples)
@@ -51,6 +53,7 @@ pub record Returning (g : Given) (h : Held) (w : World) : Type 0 where
   pub unwritten : w .written ≡ []
 
 pub record Running (g : Given) (h : Held) (w : World) (left : List ℕ) : Type 0 where
+  pub called : Called (w .count)
   pub goes : g .again ≡ g .samples → Goes g (h .simulation) left (w .written)
   pub rows : OfSome (h .simulation) (w .written)
   pub first : h .judging .held .tally ≡ talliedOf noBytes (g .samples)
@@ -74,6 +77,7 @@ toRead h w buf = drop (h .at) (take (h .chunk) buf) ++ afterChunk (h .ended) (le
 
 -- before a call of the run, where so much is written
 pub record Handing (g : Given) (h : Held) (w : World) (buf done : List ℕ) : Type 0 where
+  pub called : Called (w .count)
   pub goes : g .again ≡ g .samples → Goes g (h .simulation) (toRead h w buf) done
   -- the chunk lies within the buffer
   pub within : h .chunk ≤ length buf
@@ -92,6 +96,7 @@ pub record Writing (g : Given) (h : Held) (w : World) (size : ℕ) (wants : Want
 
 -- all of a refusal's line is to be written
 pub record Answering (g : Given) (w : World) (size : ℕ) (refusal : Refusal) (out : List ℕ) : Type 0 where
+  pub called : Called (w .count)
   pub line : take size out ≡ text g
   pub carried : text g ≡ refusedLine refusal
   pub unwritten : w .written ≡ []
@@ -100,16 +105,16 @@ pub record Answering (g : Given) (w : World) (size : ℕ) (refusal : Refusal) (o
 abbrev pub Unfinished : Given → List ℕ → Type 0
 Unfinished g done = (g .again ≡ g .samples → Begins (text g) done) × Sets g done
 
--- WHAT IS WRITTEN at the end: all of the text, or how it begins
+-- WHAT IS WRITTEN at the end: all of the text, of a program that was called with so many arguments; or how it begins
 abbrev pub Stopped : Word → Given → World → Type 0
-Stopped Word.Complete g w = (g .again ≡ g .samples → w .written ≡ text g) × Agreed g
-Stopped (Word.Refused refusal) g w = (w .written ≡ text g) × (text g ≡ refusedLine refusal)
+Stopped Word.Complete g w = (g .again ≡ g .samples → w .written ≡ text g) × Agreed g × Called (w .count)
+Stopped (Word.Refused refusal) g w = (w .written ≡ text g) × (text g ≡ refusedLine refusal) × Called (w .count)
 Stopped (Word.Nothing why) g w = Unfinished g (w .written)
 
 abbrev pub HoldsAt : Stage → Given → Held → World → List ℕ → List ℕ → Type 0
 HoldsAt Stage.Counting g h w buf out = Reading g h w
 HoldsAt Stage.Telling g h w buf out = Reading g h w × (w .count ≡ 5)
-HoldsAt Stage.Judging g h w buf out = Reading g h w
+HoldsAt Stage.Judging g h w buf out = Reading g h w × Called (w .count)
 HoldsAt Stage.AskSeconds g h w buf out = Asking g h w
 HoldsAt Stage.ToSecondPass g h w buf out = Returning g h w
 HoldsAt Stage.SecondPass g h w buf out = Running g h w (leftOf w 2)

@@ -17,7 +17,7 @@ use Rattle.run_machine.specs.declared.state.Stage.{Stage}
 use Rattle.run_machine.specs.declared.state.Held.{Held}
 use Rattle.run_machine.specs.declared.state.Machine.{Machine}
 use Rattle.run_machine.specs.Stages.{asks, asksOf}
-use Rattle.run_machine.specs.Given.{Given, text, RightCall}
+use Rattle.run_machine.specs.Given.{Given, text, RightCall, Called}
 use Rattle.run_machine.specs.Holds.{Reading, Asking, Running, Handing, Wanting, HoldsAt, Holds, stepsAt, stepsLeft, stepsJudged, passSteps, wantSteps}
 
 -- ALL WENT WELL: nothing failed, the buffers are large enough, the program was called as it has to be, and both passes read the same bytes
@@ -55,11 +55,11 @@ Tells word size r = size ≤ length word → take size word ≡ 45 ∷ 51 ∷ []
 
 -- the fifth argument is that word, or not
 unfoldable pub Names : Held → Bool → Machine → Type 0
-Names h told r = (g : Given) (w : World) (buf out : List ℕ) → Reading g h w → Nearer g r w buf out (stepsAt Stage.Telling g h w) (told ≡ true)
+Names h told r = (g : Given) (w : World) (buf out : List ℕ) → Reading g h w → w .count ≡ 5 → Nearer g r w buf out (stepsAt Stage.Telling g h w) (told ≡ true)
 
 -- a refusal's line is put
 unfoldable pub Answers : Held → Refusal → List ℕ → Machine → List ℕ → Type 0
-Answers h refusal out r out′ = (g : Given) (w : World) (buf : List ℕ) → 256 ≤ length out → text g ≡ refusedLine refusal → w .written ≡ [] → Nearer g r w buf out′ 2 (Unit {0})
+Answers h refusal out r out′ = (g : Given) (w : World) (buf : List ℕ) → 256 ≤ length out → text g ≡ refusedLine refusal → Called (w .count) → w .written ≡ [] → Nearer g r w buf out′ 2 (Unit {0})
 
 -- the argument SECONDS, of which `asked` are the first bytes
 unfoldable pub Begun : Held → List ℕ → List ℕ → Machine → List ℕ → Type 0

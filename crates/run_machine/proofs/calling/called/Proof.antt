@@ -9,7 +9,7 @@ use Rattle.run_machine.proofs.state.stopped.Reads as stopped-reads
 
 -- src/calling.rt:22:9
 returns : tie.Need-returns
-returns c = plain-call (c .before .args .held) (c .before .args .count)
+returns c = plain-call (c .before .args .held) (c .before .args .count) (c .if1 .taken)
 
 -- src/calling.rt:28:9
 returns-2 : tie.Need-returns-2
