@@ -77,6 +77,7 @@ pub record Completes (g : Files) (word : Word) (end : World) : Type 0 where
   pub answers : isAnswer word ≡ true
   pub whole : end .written ≡ text g
 
+-- a stop with an answer has all of the text
 all-written : (word : Word) (g : Files) (w : World) → isAnswer word ≡ true → Told word g (w .count) (w .written) → w .written ≡ text g
 all-written Word.Complete g w some k = k .0
 all-written (Word.Refused refusal) g w some k = k .0

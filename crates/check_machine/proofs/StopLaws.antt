@@ -112,6 +112,7 @@ pub small-steps : (m : Machine) (e : Event) (buf out : List ℕ) (why : Why) (r 
 unfolding Steps
 small-steps m e buf out why r small is = (refl, stop-because (m .stage) (m .held) (m .held) e buf out out why r is (λ w before f well. small (well .reads) (well .room)))
 
+-- a step with buffers that are large enough
 pub large-steps : (m : Machine) (e : Event) (buf out out′ : List ℕ) (r : Machine) → length out′ ≡ length out → StepsFrom (m .stage) (m .held) e buf out r out′ → Steps m e buf out r out′
 unfolding Steps
 large-steps m e buf out out′ r size k = (size, k)

@@ -14,6 +14,7 @@ use Rattle.exchange.specs.Existing.{isFailed, Well}
 
 -- ---- the events that answer an action
 
+-- how many arguments there are
 abbrev isCount : Event → Bool
 isCount Event.Done = false
 isCount (Event.Count n) = true
@@ -21,6 +22,7 @@ isCount (Event.Read n) = false
 isCount Event.End = false
 isCount Event.Failed = false
 
+-- some bytes, or none
 abbrev isRead : Event → Bool
 isRead Event.Done = false
 isRead (Event.Count n) = false
@@ -28,6 +30,7 @@ isRead (Event.Read n) = true
 isRead Event.End = false
 isRead Event.Failed = false
 
+-- some bytes, or the file's end
 abbrev isReadOrEnd : Event → Bool
 isReadOrEnd Event.Done = false
 isReadOrEnd (Event.Count n) = false
@@ -35,6 +38,7 @@ isReadOrEnd (Event.Read n) = true
 isReadOrEnd Event.End = true
 isReadOrEnd Event.Failed = false
 
+-- it was done
 abbrev isDone : Event → Bool
 isDone Event.Done = true
 isDone (Event.Count n) = false
@@ -52,6 +56,7 @@ isExpected (Action.Rewind k) e = isDone e
 isExpected (Action.Write n) e = isDone e
 isExpected (Action.Stop word) e = false
 
+-- what fits a question for the count is one
 count-expected : (e : Event) (w : World) → FitsCount e w → isCount e ≡ true
 count-expected Event.Done w f = absurd f
 count-expected (Event.Count n) w f = refl
@@ -59,6 +64,7 @@ count-expected (Event.Read n) w f = absurd f
 count-expected Event.End w f = absurd f
 count-expected Event.Failed w f = absurd f
 
+-- what fits a question for an argument is its bytes, or a failure
 argument-expected : (e : Event) (k : ℕ) (w : World) (buf : List ℕ) → FitsArgument e k w buf → isFailed e ≡ false → isRead e ≡ true
 argument-expected Event.Done k w buf f ok = absurd f
 argument-expected (Event.Count n) k w buf f ok = absurd f
@@ -66,6 +72,7 @@ argument-expected (Event.Read n) k w buf f ok = refl
 argument-expected Event.End k w buf f ok = absurd f
 argument-expected Event.Failed k w buf f ok = never (sym ok)
 
+-- what fits a read is bytes, the end, or a failure
 read-expected : (e : Event) (k from to : ℕ) (w : World) (buf : List ℕ) → FitsRead e k from to w buf → isFailed e ≡ false → isReadOrEnd e ≡ true
 read-expected Event.Done k from to w buf f ok = absurd f
 read-expected (Event.Count n) k from to w buf f ok = absurd f
@@ -73,6 +80,7 @@ read-expected (Event.Read n) k from to w buf f ok = refl
 read-expected Event.End k from to w buf f ok = refl
 read-expected Event.Failed k from to w buf f ok = never (sym ok)
 
+-- what fits an open, a rewind or a write is that it was done, or a failure
 done-expected : (e : Event) → FitsDone e → isFailed e ≡ false → isDone e ≡ true
 done-expected Event.Done f ok = refl
 done-expected (Event.Count n) f ok = absurd f
@@ -109,6 +117,7 @@ argument-within k n e w before buf is f =
 
 -- ---- nothing fails, and the call stays as it was
 
+-- a read leaves the arguments as they are
 after-read : (e : Event) (k : ℕ) (w : World) → (afterRead e k w .count ≡ w .count) × (afterRead e k w .arguments ≡ w .arguments)
 after-read Event.Done k w = (refl, refl)
 after-read (Event.Count n) k w = (refl, refl)
@@ -116,6 +125,7 @@ after-read (Event.Read n) k w = (refl, refl)
 after-read Event.End k w = (refl, refl)
 after-read Event.Failed k w = (refl, refl)
 
+-- so does a rewind
 after-rewind : (e : Event) (k : ℕ) (w : World) → (afterRewind e k w .count ≡ w .count) × (afterRewind e k w .arguments ≡ w .arguments)
 after-rewind Event.Done k w = (refl, refl)
 after-rewind (Event.Count n) k w = (refl, refl)
@@ -123,6 +133,7 @@ after-rewind (Event.Read n) k w = (refl, refl)
 after-rewind Event.End k w = (refl, refl)
 after-rewind Event.Failed k w = (refl, refl)
 
+-- and a write
 after-write : (e : Event) (n some : ℕ) (w : World) (out : List ℕ) → (afterWrite e n some w out .count ≡ w .count) × (afterWrite e n some w out .arguments ≡ w .arguments)
 after-write Event.Done n some w out = (refl, refl)
 after-write (Event.Count m) n some w out = (refl, refl)
@@ -150,6 +161,7 @@ HasRoom (Action.Rewind k) before = Unit {0}
 HasRoom (Action.Write n) before = Unit {0}
 HasRoom (Action.Stop word) before = Unit {0}
 
+-- nothing need fail there
 fails-none : {A : Type 0} (a : Action) (before : List ℕ) → Well a Event.Failed before → HasRoom a before → A
 fails-none Action.Count before well room = absurd well
 fails-none (Action.Argument k) before well room = absurd well

@@ -16,6 +16,7 @@ module _ {P : Type 0} (asks : P → Action) (One : P → Event → List ℕ → 
     pub out : List ℕ
     pub holds : Holds last end buf out
 
+  -- what holds at the first state of such a list holds at its last
   pub well-keep : {n : ℕ} {p last : P} {w end : World} {buf out : List ℕ} → WellEvents asks One n p w buf out last end → Holds p w buf out → KeptWell last end
   well-keep {buf = buf} {out = out} WellEvents.none k = record { buf = buf; out = out; holds = k }
   well-keep {p = p} {w = w} {buf = before} {out = out} (WellEvents.more e some buf q out′ well fits one rest) k = well-keep rest (keeps p e w before buf out some q out′ k well fits one)

@@ -6,6 +6,7 @@ use Rattle.exchange.specs.declared.action.Action.{Action}
 use Rattle.exchange.specs.declared.action.Word.{Word}
 use Rattle.exchange.specs.Existing.{isNothing, givesUp}
 
+-- the word of a stop; another action has none of its own
 abbrev pub wordOf : Word → Action → Word
 wordOf none Action.Count = none
 wordOf none (Action.Argument k) = none
@@ -21,6 +22,7 @@ isAnswer Word.Complete = true
 isAnswer (Word.Refused r) = true
 isAnswer (Word.Nothing why) = false
 
+-- the action is a stop with an answer
 abbrev pub stopsWell : Action → Bool
 stopsWell Action.Count = false
 stopsWell (Action.Argument k) = false
@@ -30,9 +32,11 @@ stopsWell (Action.Rewind k) = false
 stopsWell (Action.Write n) = false
 stopsWell (Action.Stop word) = isAnswer word
 
+-- an action that is none is no such stop
 pub no-stop : {A : Type 0} (a : Action) (word : Word) → stopsWell a ≡ false → isAnswer word ≡ true → a ≡ Action.Stop word → A
 no-stop a word none some is = never (sym none ∙ ap stopsWell is ∙ some)
 
+-- a word that does not say that there is no answer says that there is one
 something-answers : (word : Word) → isNothing word ≡ false → isAnswer word ≡ true
 something-answers Word.Complete e = refl
 something-answers (Word.Refused r) e = refl

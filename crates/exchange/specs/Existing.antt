@@ -43,6 +43,7 @@ pub record Answered {P : Type 0} (One : P → Event → List ℕ → List ℕ �
 
 -- ---- a system at which nothing fails that need not
 
+-- what was asked for was not done
 abbrev pub isFailed : Event → Bool
 isFailed Event.Done = false
 isFailed (Event.Count n) = false

@@ -82,12 +82,14 @@ told-by (a ∷ b ∷ rest) e some =
     let q : b ≡ 51 = ap (λ (l : List ℕ). getD l 1 0) e in
     rw (p, q)
 
+-- an argument that is the word has two bytes
 pub word-size : (word : List ℕ) (size : ℕ) → size ≤ length word → take size word ≡ 45 ∷ 51 ∷ [] → size ≡ 2
 word-size word size within e =
     let taken : length (take size word) ≡ min size (length word) = length-take size word in
     let two : length (take size word) ≡ 2 = ap length e in
     omega (arith, within, taken, two)
 
+-- the test of the two bytes tells the word
 pub word-told : (word : List ℕ) (size : ℕ) (r : Bool) → r ≡ eqb size 2 && eqb (getD word 0 0) 45 && eqb (getD word 1 0) 51 → Tells word size r
 unfolding Tells
 word-told word size r is within e =
@@ -96,6 +98,7 @@ word-told word size r is within e =
     let t = both (eqb (getD word 0 0) 45) (eqb (getD word 1 0) 51) (told-by word word-is (omega (arith, two, within))) in
     is ∙ and-true (and-true (eq-eqb size 2 two) (t .0)) (t .1)
 
+-- no word stands in a buffer of one byte
 pub word-short : (word : List ℕ) (size : ℕ) → length word < 2 → Tells word size false
 unfolding Tells
 word-short word size less within e = let two = word-size word size within e in absurd (omega (arith, two, within, less))
@@ -111,6 +114,7 @@ word-is : (count : ℕ) (word : List ℕ) → count ≡ 5 → RightCall count wo
 word-is count word five (RightCall.plain four) = absurd (omega (arith, five, four))
 word-is count word five (RightCall.told e is) = is
 
+-- ten bytes hold all of the word
 take-two : (n : ℕ) (word : List ℕ) → 10 ≤ n → word ≡ 45 ∷ 51 ∷ [] → take n word ≡ 45 ∷ 51 ∷ []
 take-two n word ten is = take-all n word (let two : length word ≡ 2 = ap length is in omega (arith, ten, two)) ∙ is
 

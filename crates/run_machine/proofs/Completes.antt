@@ -49,6 +49,7 @@ record Going (g : Given) (m : Machine) (w : World) (buf out : List ℕ) : Type 0
   call : RightCall (w .count) (w .arguments 4)
   on : givesUp (asksOf m) ≡ false
 
+-- the call stays right
 call-kept : (count count′ : ℕ) (arguments arguments′ : ℕ → List ℕ) → count′ ≡ count → arguments′ ≡ arguments → RightCall count (arguments 4) → RightCall count′ (arguments′ 4)
 call-kept count count′ arguments arguments′ c a (RightCall.plain four) = RightCall.plain (c ∙ four)
 call-kept count count′ arguments arguments′ c a (RightCall.told five word) = RightCall.told (c ∙ five) (ap (λ (f : ℕ → List ℕ). f 4) a ∙ word)
@@ -87,6 +88,7 @@ pub record Completes (g : Given) (word : Word) (end : World) : Type 0 where
   pub answers : isAnswer word ≡ true
   pub whole : end .written ≡ text g
 
+-- a stop with an answer has all of the text
 all-written : (word : Word) (g : Given) (w : World) → g .again ≡ g .samples → isAnswer word ≡ true → Stopped word g w → w .written ≡ text g
 all-written Word.Complete g w same some k = k .0 same
 all-written (Word.Refused refusal) g w same some k = k .0

@@ -173,6 +173,7 @@ over-late (Phase.SetLine place) e b = never e
 over-late Phase.Over e b = never b
 over-late Phase.Broken e b = never e
 
+-- until the run is told of the end its sets are to come
 early-by : (ended : Bool) (g : Given) (first second : Tally) (left : List ℕ) (s : Simulation) (done : List ℕ) → ended ≡ false → Tallies ended g first second left s done → isBeforeSets (s .phase) ≡ true
 early-by true g first second left s done e k = never (sym e)
 early-by false g first second left s done e k = k .2 .early

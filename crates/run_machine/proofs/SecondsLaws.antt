@@ -185,6 +185,7 @@ isBegin (Phase.SetLine place) = false
 isBegin Phase.Over = false
 isBegin Phase.Broken = false
 
+-- that is all that `begin` gives
 begins-so : (a : Answer Station) (v : Answer Span) (q : Answer ℕ) (s : Simulation) → BegunAs a v q s → isBegin (s .phase) ≡ true
 begins-so (refused n k) v q s b = ap isBegin (b .phase-is)
 begins-so (accepted st) (refused n k) q s b = ap isBegin (b .phase-is)

@@ -198,6 +198,7 @@ pub short-read : (h : Held) (e : Event) (n : ℕ) (buf out out′ : List ℕ) (w
 short-read h e n buf out out′ why r is same less =
     stop-because Stage.SecondPass h e buf out out′ why r is (λ w before f ok. let within = read-within 2 0 bufferEnd n e w before buf same f in omega (arith, within, less))
 
+-- and an argument of more bytes
 pub short-argument : (h : Held) (e : Event) (n : ℕ) (buf out out′ : List ℕ) (why : Why) (r : Machine) → r ≡ stopping h why → e ≡ Event.Read n → length buf < n → StepsFrom Stage.AskSeconds h e buf out r out′
 short-argument h e n buf out out′ why r is same less =
     stop-because Stage.AskSeconds h e buf out out′ why r is (λ w before f ok. let within = argument-within 3 n e w before buf same f in omega (arith, within, less))

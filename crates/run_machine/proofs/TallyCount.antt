@@ -11,6 +11,7 @@ use Rattle.intake.specs.declared.tally.Tally.{Tally}
 use Rattle.intake.specs.Tally.{modulus, noBytes, withByte, talliedOf, sameTally}
 use Rattle.samples.specs.ToCome.{mostPlace}
 
+-- a count of fewer than 2^64 bytes does not wrap
 one-more : (n m : ℕ) → n + suc m ≤ mostPlace → (n + 1) % modulus ≡ n + 1
 one-more n m h = omega (arith, h)
 
@@ -30,6 +31,7 @@ count-all xs h =
     let all = count-is noBytes xs (omega (arith, h)) in
     omega (arith, all)
 
+-- at the start none is counted
 pub none-counted : noBytes .count ≡ 0
 unfolding noBytes
 none-counted = refl
