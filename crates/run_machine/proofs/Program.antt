@@ -101,7 +101,7 @@ pub record Prints (g : Given) (n : ℕ) (last : Machine) (end : World) : Type 0 
   pub complete : Asked last (Action.Stop Word.Complete) → (g .again ≡ g .samples → end .written ≡ text g) × Agreed g × Called (end .count)
   -- or with a refusal, whatever a second pass would have read: the line of that one
   pub refused : (r : Refusal) → Asked last (Action.Stop (Word.Refused r)) → (end .written ≡ text g) × (text g ≡ refusedLine r) × Called (end .count)
-  -- whatever both passes read: what was written is how a refusal begins, or every set's line is still to come, or the tallies agreed
+  -- whatever both passes read: nothing was written, or how a refusal's line begins, or every set's line is still to come, or the tallies agreed
   pub sets : Sets g (end .written)
   -- the stop comes in so few steps: each brings a byte, a second or the end nearer, but for 27
   pub few : n ≤ length (g .station) + length (g .samples) + 3 * length (g .again) + secondsOf (g .asked) + 27

@@ -4,12 +4,14 @@ use mathlib.Core.Path.{_≡_, refl, sym, ap, _∙_, subst}
 use mathlib.Core.Bool.{Bool, true, false}
 use mathlib.Core.List.{List, [], _∷_, _++_, append-nil, append-assoc}
 use native.Mathlib.Omega.{arith}
-use lib.ListN.{length, take, drop, take-append-drop}
+use lib.ListN.{length, take, drop, take-append-drop, length-append}
 use lib.Seq.{take-take}
+use Rattle.rules.specs.declared.answers.Refusal.{Refusal}
 use Rattle.rules.specs.declared.run.Inputs.{Inputs}
 use Rattle.rules.specs.declared.run.Run.{Run}
 use Rattle.rules.specs.declared.station.Station.{Station}
 use Rattle.rules.specs.Row.{rowHeading}
+use Rattle.rows.specs.AnswerLine.{refusedLine}
 use Rattle.rules.proofs.Tests.{never}
 use Rattle.intake.specs.declared.tally.Tally.{Tally}
 use Rattle.dispatch.specs.Working.{runAfter}
@@ -48,8 +50,14 @@ begins-none whole done e = record { later = whole; is = ap (λ (l : List ℕ). l
 begins-before : (whole more done rest : List ℕ) → more ≡ done ++ rest → Begins whole more → Begins whole done
 begins-before whole more done rest e b = record { later = rest ++ b .later; is = b .is ∙ ap (λ (l : List ℕ). l ++ b .later) e ∙ append-assoc done rest (b .later) }
 
+-- what has no byte begins with none
+none-before : (more done rest : List ℕ) → more ≡ done ++ rest → more ≡ [] → done ≡ []
+none-before more [] rest e none = refl
+none-before more (byte ∷ done) rest e none = absurd (let z : length ((byte ∷ done) ++ rest) ≡ 0 = ap length (sym e ∙ none) in omega (arith, z, length-append (byte ∷ done) rest))
+
 sets-before : (g : Given) (more done rest : List ℕ) → more ≡ done ++ rest → Sets g more → Sets g done
-sets-before g more done rest e (Sets.begun b) = Sets.begun (begins-before (text g) more done rest e b)
+sets-before g more done rest e (Sets.nothing n) = Sets.nothing (none-before more done rest e n)
+sets-before g more done rest e (Sets.refusal r is b) = Sets.refusal r is (begins-before (text g) more done rest e b)
 sets-before g more done rest e (Sets.unshown t) =
     let end : List ℕ = t .later ++ setTexts (t .at) (t .last) in
     Sets.unshown
@@ -121,7 +129,7 @@ sets-by false g first second left s done t = Sets.unshown (sets-to-come s done (
 -- ---- what is written when a program stops
 
 none-written : (g : Given) (done : List ℕ) → done ≡ [] → Unfinished g done
-none-written g done e = (λ same. begins-none (text g) done e, Sets.begun (begins-none (text g) done e))
+none-written g done e = (λ same. begins-none (text g) done e, Sets.nothing e)
 
 unfinished-before : (g : Given) (more done rest : List ℕ) → more ≡ done ++ rest → Unfinished g more → Unfinished g done
 unfinished-before g more done rest e u = (λ same. begins-before (text g) more done rest e (u .0 same), sets-before g more done rest e (u .1))
@@ -136,13 +144,13 @@ handing-unfinished g h w buf done k = (
 )
 
 -- a text that is written whole
-whole-unfinished : (g : Given) (done : List ℕ) → done ≡ text g → Unfinished g done
-whole-unfinished g done e =
+whole-unfinished : (g : Given) (r : Refusal) (done : List ℕ) → text g ≡ refusedLine r → done ≡ text g → Unfinished g done
+whole-unfinished g r done is e =
     let b : Begins (text g) done = record { later = []; is = sym e ∙ sym (append-nil done) } in
-    (λ same. b, Sets.begun b)
+    (λ same. b, Sets.refusal r is b)
 
-answer-unfinished : (g : Given) (w : World) (size : ℕ) (out : List ℕ) → take size out ≡ text g → w .written ≡ [] → Unfinished g (w .written ++ take size out)
-answer-unfinished g w size out line none = whole-unfinished g (w .written ++ take size out) (ap (λ (l : List ℕ). l ++ take size out) none ∙ line)
+answer-unfinished : (g : Given) (r : Refusal) (w : World) (size : ℕ) (out : List ℕ) → text g ≡ refusedLine r → take size out ≡ text g → w .written ≡ [] → Unfinished g (w .written ++ take size out)
+answer-unfinished g r w size out is line none = whole-unfinished g r (w .written ++ take size out) is (ap (λ (l : List ℕ). l ++ take size out) none ∙ line)
 
 after-write : (g : Given) (e : Event) (size some : ℕ) (w : World) (out : List ℕ) → FitsDone e → Unfinished g (w .written ++ take size out) → Unfinished g (afterWrite e size some w out .written)
 after-write g Event.Done size some w out f u = u
@@ -162,7 +170,7 @@ stops Stage.AskSeconds g h w before buf out e some o f = none-written g (w .writ
 stops Stage.ToSecondPass g h w before buf out e some o f = none-written g (afterRewind e 2 w .written) (rewind-frame e 2 w .written ∙ o .unwritten)
 stops Stage.SecondPass g h w before buf out e some o f = subst (Unfinished g) (sym (read-frame e 2 w .written)) (running-unfinished g h w (leftOf w 2) o)
 stops (Stage.Write size wants) g h w before buf out e some o f = after-write g e size some w out (f .0) (handing-unfinished g h w before (w .written ++ take size out) (o .handing))
-stops (Stage.Answer size refusal) g h w before buf out e some o f = after-write g e size some w out (f .0) (answer-unfinished g w size out (o .line) (o .unwritten))
+stops (Stage.Answer size refusal) g h w before buf out e some o f = after-write g e size some w out (f .0) (answer-unfinished g refusal w size out (o .carried) (o .line) (o .unwritten))
 stops (Stage.Stop word) g h w before buf out e some o f = absurd f
 
 -- a step is left at each stage that waits for an event
@@ -240,7 +248,7 @@ at-stage stage stage′ h e buf out out′ r is k = subst (λ (x : Stage). Steps
 
 by-word : (word : Word) (g : Given) (w : World) → Stopped word g w → Unfinished g (w .written)
 by-word Word.Complete g w k = (λ same. record { later = []; is = sym (k .0 same) ∙ sym (append-nil (w .written)) }, Sets.agreed (k .1))
-by-word (Word.Refused refusal) g w k = whole-unfinished g (w .written) (k .0)
+by-word (Word.Refused refusal) g w k = whole-unfinished g refusal (w .written) (k .1) (k .0)
 by-word (Word.Nothing why) g w k = k
 
 pub so-far : (stage : Stage) (g : Given) (h : Held) (w : World) (buf out : List ℕ) → HoldsAt stage g h w buf out → Unfinished g (w .written)

@@ -4,11 +4,13 @@ use mathlib.Core.Path.{_≡_}
 use mathlib.Core.Bool.{true}
 use mathlib.Core.List.{List, [], _∷_, _++_}
 use lib.ListN.{length}
+use Rattle.rules.specs.declared.answers.Refusal.{Refusal}
 use Rattle.rules.specs.declared.run.Inputs.{Inputs}
 use Rattle.rules.specs.declared.run.Run.{Run}
 use Rattle.rules.specs.declared.station.Station.{Station}
 use Rattle.rules.specs.Row.{rowHeading}
 use Rattle.rules.specs.Run.{printed}
+use Rattle.rows.specs.AnswerLine.{refusedLine}
 use Rattle.intake.specs.Tally.{noBytes, talliedOf}
 use Rattle.samples.specs.ToCome.{mostPlace}
 use Rattle.simulation.specs.declared.state.Simulation.{Simulation}
@@ -76,8 +78,9 @@ pub record SetsToCome (done : List ℕ) : Type 0 where
   pub last : Run
   pub is : rowHeading ++ rowsWith station inputs run ≡ done ++ (later ++ setTexts at last)
 
--- THE SETS' LINES: what is written is how a refusal begins, or every set's line is still to come, or both passes' tallies agreed
+-- THE SETS' LINES: nothing is written, or how a refusal's line begins, or every set's line is still to come, or both passes' tallies agreed
 pub data Sets (g : Given) (done : List ℕ) : Type 0 where
-  begun : Begins (text g) done → Sets g done
+  nothing : done ≡ [] → Sets g done
+  refusal : (r : Refusal) → text g ≡ refusedLine r → Begins (text g) done → Sets g done
   unshown : SetsToCome done → Sets g done
   agreed : Agreed g → Sets g done
