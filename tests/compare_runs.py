@@ -5,7 +5,7 @@ Runs the program RUN (target/bin/run_files, which `rt check run_files` builds) a
 byte for byte with what the independent reference program prints: first cases with known answers, then COUNT generated runs and a third
 as many others (sheets of all sizes, up to some 65,536 bytes; stations, half of them damaged), then sheets whose plain rows are cut by
 RUN's chunks at every place of a row, and at last runs of 100,000 seconds. The
-known ones, every tenth of the generated ones, each small damaged sheet and some long runs go through SMALL too (target/bin/run_small:
+known ones, every tenth of the generated ones, each small damaged sheet and some long runs go through SMALL too (target/bin/test_run_small:
 the same core, fed 11 bytes at a time and emptied by 256). Most print into a pipe; every twentieth and the long ones into a file. RUN
 and SMALL may be commands of several words.
 

@@ -1,7 +1,7 @@
 #!/usr/bin/env python3
 """compare_seconds.py REFERENCE GENERATE SEED COUNT
 
-Runs target/bin/second_cases (`rt check second_cases` builds it) on COUNT generated cases of one second, and compares each answer byte
+Runs target/bin/test_second_cases (`rt check test_second_cases` builds it) on COUNT generated cases of one second, and compares each answer byte
 for byte with that of the independent reference program: the row's length or the refusal, the record handed back, the row. The program
 itself holds the lent buffer to what it was, beside the row. Says how many were accepted, how many met each refusal, and how many held a
 NaN or an infinity, and fails where one of them never was.
@@ -12,7 +12,7 @@ sys.dont_write_bytecode = True  # no folder of compiled modules among the source
 from c_drivers import fail, must
 
 ROOT = os.path.dirname(os.path.dirname(os.path.abspath(__file__)))
-PROGRAM = os.path.join('target', 'bin', 'second_cases')
+PROGRAM = os.path.join('target', 'bin', 'test_second_cases')
 
 REFUSALS = ['refused,%d,0' % number for number in [19, 20, 23, 24, 25, 26]]
 HELD = ['held NaN', 'held infinity']
@@ -54,7 +54,7 @@ def main():
     seed, count = sys.argv[3], int(sys.argv[4])
     os.chdir(ROOT)
     if not os.path.exists(PROGRAM):
-        fail('%s is not there; `rt check second_cases` builds it' % PROGRAM)
+        fail('%s is not there; `rt check test_second_cases` builds it' % PROGRAM)
     text = must([generate, 'seconds', seed, str(count)])
     cases = text.decode().splitlines()
     theirs = must([reference, 'batch', 'seconds'], input=text).decode().splitlines()

@@ -23,7 +23,7 @@ use Rattle.judging.proofs.AskLaws.{reading-room}
 use Rattle.check_machine.specs.declared.state.Stage.{Stage}
 use Rattle.check_machine.specs.declared.state.Machine.{Machine}
 use Rattle.check_machine.specs.Stages.{asks, asksOf}
-use Rattle.check_machine.specs.Holds.{text, Told, Holds, Well, StepsFrom, Steps, Starting}
+use Rattle.check_machine.specs.Holds.{text, WordMeans, Holds, Well, StepsFrom, Steps, Starting}
 use Rattle.check_machine.proofs.Program.{Opened, Stepped, open-owes, step-owes, opens-holds, at-stop}
 use Rattle.check_machine.proofs.Existing.{MachineHeld, check-exists}
 
@@ -78,7 +78,7 @@ pub record Completes (g : Files) (word : Word) (end : World) : Type 0 where
   pub whole : end .written ≡ text g
 
 -- a stop with an answer has all of the text
-all-written : (word : Word) (g : Files) (w : World) → isAnswer word ≡ true → Told word g (w .count) (w .written) → w .written ≡ text g
+all-written : (word : Word) (g : Files) (w : World) → isAnswer word ≡ true → WordMeans word g (w .count) (w .written) → w .written ≡ text g
 all-written Word.Complete g w some k = k .0
 all-written (Word.Refused refusal) g w some k = k .0
 all-written (Word.Nothing why) g w some k = never some

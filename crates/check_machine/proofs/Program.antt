@@ -30,7 +30,7 @@ use Rattle.check_machine.specs.declared.state.Held.{Held}
 use Rattle.check_machine.specs.declared.state.Machine.{Machine}
 use Rattle.check_machine.specs.Answer.{answered}
 use Rattle.check_machine.specs.Stages.{asks, asksOf}
-use Rattle.check_machine.specs.Holds.{Told, HoldsAt, Holds, stepsAt, steps, StepsFrom, Steps, Starting, Opens}
+use Rattle.check_machine.specs.Holds.{WordMeans, HoldsAt, Holds, stepsAt, steps, StepsFrom, Steps, Starting, Opens}
 use Rattle.check_machine.proofs.StopLaws.{so-far}
 use Rattle.check_machine.proofs.next.begin.Reads as begin-reads
 use Rattle.check_machine.proofs.next.begin.Kinds as begin-kinds
@@ -95,14 +95,14 @@ opens-steps g m w o s =
 
 -- ---- the word that a stage stops with
 
-pub at-stop : (stage : Stage) (word : Word) (g : Files) (h : Held) (w : World) (out : List ℕ) → isAnswer word ≡ true → asks stage (h .judging .stage) ≡ Action.Stop word → HoldsAt stage g h w out → Told word g (w .count) (w .written)
+pub at-stop : (stage : Stage) (word : Word) (g : Files) (h : Held) (w : World) (out : List ℕ) → isAnswer word ≡ true → asks stage (h .judging .stage) ≡ Action.Stop word → HoldsAt stage g h w out → WordMeans word g (w .count) (w .written)
 at-stop Stage.Counting word g h w out some is k = no-stop Action.Count word refl some is
 at-stop Stage.Judging word g h w out some is k = no-stop (judgeAsks (h .judging .stage)) word (reading-asks (h .judging .stage)) some is
 at-stop (Stage.Answer size word′) word g h w out some is k = no-stop (Action.Write size) word refl some is
 at-stop (Stage.LineAnswer size r) word g h w out some is k = no-stop (Action.Write size) word refl some is
 at-stop (Stage.ToLines r) word g h w out some is k = no-stop (Action.Rewind 2) word refl some is
 at-stop (Stage.Lines r) word g h w out some is k = no-stop (asks (Stage.Lines r) JudgeStage.Judged) word refl some is
-at-stop (Stage.Stop this) word g h w out some is k = subst (λ (x : Word). Told x g (w .count) (w .written)) (ap (wordOf word) is) k
+at-stop (Stage.Stop this) word g h w out some is k = subst (λ (x : Word). WordMeans x g (w .count) (w .written)) (ap (wordOf word) is) k
 
 -- ---- THE THEOREM
 

@@ -22,7 +22,7 @@ use Rattle.check_machine.specs.declared.state.Stage.{Stage}
 use Rattle.check_machine.specs.declared.state.Held.{Held}
 use Rattle.check_machine.specs.declared.state.Machine.{Machine}
 use Rattle.check_machine.specs.Stages.{asks, stopping, movedBy}
-use Rattle.check_machine.specs.Holds.{text, Told, HoldsAt, stepsAt, Well, Nearer, StepsFrom, Answers, Searches}
+use Rattle.check_machine.specs.Holds.{text, WordMeans, HoldsAt, stepsAt, Well, Nearer, StepsFrom, Answers, Searches}
 use Rattle.check_machine.proofs.StopLaws.{begins-none, told-begins, after-write}
 
 -- ---- the arguments
@@ -108,7 +108,7 @@ pub search-ends : (refusal : Refusal) (h : Held) (e : Event) (buf out : List ℕ
 unfolding StepsFrom
 search-ends refusal h e buf out r is g w before some k f =
     let w′ : World = afterRead e 2 w in
-    let told : Told (Word.Refused refusal) g (w′ .count) (w′ .written) = (read-frame e 2 w .written ∙ k .0, k .1, read-frame e 2 w .count ∙ k .2) in
+    let told : WordMeans (Word.Refused refusal) g (w′ .count) (w′ .written) = (read-frame e 2 w .written ∙ k .0, k .1, read-frame e 2 w .count ∙ k .2) in
     subst (λ (s : Stage). HoldsAt s g (r .held) w′ out × (stepsAt s g (r .held) w′ < length (leftOf w 2) + 1) × (Well w e buf out → givesUp (asks s (r .held .judging .stage)) ≡ false)) (sym is)
     (told, omega arith, λ well. refl)
 

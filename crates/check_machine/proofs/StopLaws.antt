@@ -19,7 +19,7 @@ use Rattle.check_machine.specs.declared.state.Stage.{Stage}
 use Rattle.check_machine.specs.declared.state.Held.{Held}
 use Rattle.check_machine.specs.declared.state.Machine.{Machine}
 use Rattle.check_machine.specs.Stages.{asks, stopping}
-use Rattle.check_machine.specs.Holds.{text, Told, HoldsAt, stepsAt, Well, Nearer, StepsFrom, Steps}
+use Rattle.check_machine.specs.Holds.{text, WordMeans, HoldsAt, stepsAt, Well, Nearer, StepsFrom, Steps}
 
 -- ---- a text begins so
 
@@ -33,7 +33,7 @@ begins-all whole done e = record { later = []; is = sym e ∙ sym (append-nil do
 begins-before : (whole more done rest : List ℕ) → more ≡ done ++ rest → Begins whole more → Begins whole done
 begins-before whole more done rest e b = record { later = rest ++ b .later; is = b .is ∙ ap (λ (l : List ℕ). l ++ b .later) e ∙ append-assoc done rest (b .later) }
 
-pub told-begins : (word : Word) (g : Files) (count : ℕ) (done : List ℕ) → Told word g count done → Begins (text g) done
+pub told-begins : (word : Word) (g : Files) (count : ℕ) (done : List ℕ) → WordMeans word g count done → Begins (text g) done
 told-begins Word.Complete g count done k = begins-all (text g) done (k .0)
 told-begins (Word.Refused r) g count done k = begins-all (text g) done (k .0)
 told-begins (Word.Nothing why) g count done k = k

@@ -29,10 +29,10 @@ abbrev pub text : Files → List ℕ
 text g = answered (g .station) (g .samples)
 
 -- WHAT A WORD TELLS of the bytes that were written, where there are so many arguments: all of the text and which line it is, or how it begins
-abbrev pub Told : Word → Files → ℕ → List ℕ → Type 0
-Told Word.Complete g count done = (done ≡ text g) × (text g ≡ acceptedLine) × (count ≡ 3)
-Told (Word.Refused r) g count done = (done ≡ text g) × (text g ≡ refusedLine r) × (count ≡ 3)
-Told (Word.Nothing why) g count done = Begins (text g) done
+abbrev pub WordMeans : Word → Files → ℕ → List ℕ → Type 0
+WordMeans Word.Complete g count done = (done ≡ text g) × (text g ≡ acceptedLine) × (count ≡ 3)
+WordMeans (Word.Refused r) g count done = (done ≡ text g) × (text g ≡ refusedLine r) × (count ≡ 3)
+WordMeans (Word.Nothing why) g count done = Begins (text g) done
 
 -- until both files are judged nothing is written
 pub record Reading (g : Files) (h : Held) (w : World) : Type 0 where
@@ -45,11 +45,11 @@ pub record Reading (g : Files) (h : Held) (w : World) : Type 0 where
 abbrev pub HoldsAt : Stage → Files → Held → World → List ℕ → Type 0
 HoldsAt Stage.Counting g h w out = Reading g h w
 HoldsAt Stage.Judging g h w out = Reading g h w × (w .count ≡ 3)
-HoldsAt (Stage.Answer size word) g h w out = Told word g (w .count) (w .written ++ take size out) × (isNothing word ≡ false)
-HoldsAt (Stage.LineAnswer size r) g h w out = Told (Word.Refused r) g (w .count) (w .written ++ take size out)
-HoldsAt (Stage.ToLines r) g h w out = Told (Word.Refused r) g (w .count) (w .written)
-HoldsAt (Stage.Lines r) g h w out = Told (Word.Refused r) g (w .count) (w .written)
-HoldsAt (Stage.Stop word) g h w out = Told word g (w .count) (w .written)
+HoldsAt (Stage.Answer size word) g h w out = WordMeans word g (w .count) (w .written ++ take size out) × (isNothing word ≡ false)
+HoldsAt (Stage.LineAnswer size r) g h w out = WordMeans (Word.Refused r) g (w .count) (w .written ++ take size out)
+HoldsAt (Stage.ToLines r) g h w out = WordMeans (Word.Refused r) g (w .count) (w .written)
+HoldsAt (Stage.Lines r) g h w out = WordMeans (Word.Refused r) g (w .count) (w .written)
+HoldsAt (Stage.Stop word) g h w out = WordMeans word g (w .count) (w .written)
 
 abbrev pub Holds : Files → Machine → World → List ℕ → Type 0
 Holds g m w out = HoldsAt (m .stage) g (m .held) w out
@@ -123,7 +123,7 @@ Answers h out r out′ = (g : Files) (w : World) → Unanswered w → Judged g (
 
 -- the answer is written, and a chunk of the sample file has come
 unfoldable pub Searches : Refusal → Machine → Type 0
-Searches refusal r = (g : Files) (w : World) (out : List ℕ) → Told (Word.Refused refusal) g (w .count) (w .written) → Nearer g r w out (length (leftOf w 2) + 2) (Unit {0})
+Searches refusal r = (g : Files) (w : World) (out : List ℕ) → WordMeans (Word.Refused refusal) g (w .count) (w .written) → Nearer g r w out (length (leftOf w 2) + 2) (Unit {0})
 
 -- ---- the start
 

@@ -9,7 +9,7 @@ use Rattle.rules.specs.Answers.{accepted}
 use Rattle.rules.specs.StationFile.{stationFile}
 use Rattle.rules.specs.RunRecord.{startRecord}
 use Rattle.rules.specs.Second.{second, recordHanded}
-use Rattle.rules.specs.Seconds.{numbersOf, Came, cameOf}
+use Rattle.rules.specs.Seconds.{numbersOf, WorkedSeconds, cameOf}
 use Rattle.claims_rules.specs.Batches.{one, many, ManyCall, Batch, runAfter, ChainedBatches, none, more}
 use Rattle.claims.specs.Functions.{ManyBy}
 use Rattle.claims.specs.Mixed.{BatchBy, LentMany, Handing, handedTo, RealisedMixed}
@@ -17,7 +17,7 @@ use Rattle.claims.proofs.Exists.{callOf, called-by, readingOf, startedO
 
 -- the call of many seconds of a station, a record, inputs and rows
 module _ (st : Station) (r : Run) (l : LentMany) where
-  abbrev came : Came
+  abbrev came : WorkedSeconds
   came = cameOf st r (l .inputs) (l .lent)
 
   abbrev manyOf : ManyCall

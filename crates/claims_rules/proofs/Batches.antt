@@ -19,7 +19,7 @@ use Rattle.rules.specs.StationRecord.{someFileGives}
 use Rattle.rules.specs.RunRecord.{startRecord, possible}
 use Rattle.rules.specs.Row.{columns}
 use Rattle.rules.specs.Second.{step, recordAfter, admitted}
-use Rattle.rules.specs.Seconds.{inputsEach, numbersOf, Came, cameOn, cameTo, Seconds}
+use Rattle.rules.specs.Seconds.{inputsEach, numbersOf, WorkedSeconds, cameOn, cameTo, Seconds}
 use Rattle.rules.specs.Calls.{Call}
 use Rattle.rules.specs.Calls as calls
 use Rattle.rules.proofs.Shapes.{Tables}
@@ -27,7 +27,7 @@ use Rattle.rules.proofs.Start.{start-possible}
 use Rattle.laws.specs.Admitted.{Admitted}
 use Rattle.laws.proofs.Kept.{judged-is, admitted-of, record-kept}
 use Rattle.claims_rules.specs.Shown.{Worked}
-use Rattle.claims_rules.specs.Batches.{one, many, ManyCall, Batch, runAfter, ToldMany, Told, toldBatch, askedBatch, cameBy, ruledTold, ruledRun, ruledBatchesFrom, ruledBatches, rowsEach, rowsIn, rowsInBatches, EndedAt, KeptMany, KeptBatch, ChainedBatches, none, more, ClaimBatches}
+use Rattle.claims_rules.specs.Batches.{one, many, ManyCall, Batch, runAfter, ManyAnswer, BatchAnswer, batchAnswer, askedBatch, cameBy, ruledAnswer, ruledRun, ruledBatchesFrom, ruledBatches, rowsEach, rowsIn, rowsInBatches, EndedAt, KeptMany, KeptBatch, ChainedBatches, none, more, ClaimBatches}
 use Rattle.claims_rules.proofs.Seconds.{workedAt}
 use Rattle.claims_rules.proofs.Lists as lists
 use Rattle.claims_rules.proofs.Lists.{Steps, workedOf}
@@ -85,7 +85,7 @@ OwesBatch st r (many m) = OwesMany st r m
 module _ (st : Station) (given : someFileGives st ≡ true) (tables : Tables st) where
   -- ---- what seconds come to
 
-  record WorkedOff (r : Run) (xs : List Inputs) (room : ℕ) (c : Came) : Type 0 where
+  record WorkedOff (r : Run) (xs : List Inputs) (room : ℕ) (c : WorkedSeconds) : Type 0 where
     as-contract : cameTo st r xs room ≡ c
     accepts : List Inputs
     steps : Steps st r accepts (c .run)
@@ -116,11 +116,11 @@ module _ (st : Station) (given : someFileGives st ≡ true) (tables : Tables st)
         let is = judged-is st r x 256 given was-possible ∙ ap (λ (b : Answer (Unit {0})). b >> accepted worked) e in
         let h : Admitted st r x = admitted-of st r x 256 worked is .0 in
         let w = later (kept-on h) in
-        let c : Came = cameBy st (worked .run) xs room in
+        let c : WorkedSeconds = cameBy st (worked .run) xs room in
         record {
           as-contract =
               ap (λ (a : Answer Step). cameOn r a (λ s. cameTo st (s .run) xs room)) is
-              ∙ ap (λ (k : Came). cameOn r (accepted worked) (λ s. k)) (w .as-contract);
+              ∙ ap (λ (k : WorkedSeconds). cameOn r (accepted worked) (λ s. k)) (w .as-contract);
           accepts = x ∷ w .accepts;
           steps = lists.more h (w .steps);
           shows = λ rest. ap (λ (l : List Worked). workedAt st r x ∷ l) (w .shows rest);
@@ -177,7 +177,7 @@ module _ (st : Station) (given : someFileGives st ≡ true) (tables : Tables st)
     accepts : List Inputs
     steps : Steps st r accepts (runAfter b)
     shows : rowsIn b ≡ workedOf st r accepts
-    told : toldBatch b ≡ ruledTold st r (askedBatch b)
+    told : batchAnswer b ≡ ruledAnswer st r (askedBatch b)
     hands : runAfter b ≡ ruledRun st r (askedBatch b)
     kept : KeptBatch r b
     stays-possible : possible st (runAfter b) ≡ true
@@ -199,7 +199,7 @@ module _ (st : Station) (given : someFileGives st ≡ true) (tables : Tables st)
     abbrev xs : List Inputs
     xs = inputsEach (m .inputs)
 
-    abbrev c : Came
+    abbrev c : WorkedSeconds
     c = cameBy st r xs (length (m .lent) / 13)
 
     abbrev n : ℕ
@@ -209,16 +209,16 @@ module _ (st : Station) (given : someFileGives st ≡ true) (tables : Tables st)
     w = worked-off r xs (length (m .lent) / 13) was-possible
 
     hands-is : m .worked .run ≡ c .run
-    hands-is = o .hands ∙ ap (λ (k : Came). k .run) (w .as-contract)
+    hands-is = o .hands ∙ ap (λ (k : WorkedSeconds). k .run) (w .as-contract)
 
     counts-is : n ≡ length (c .rows)
-    counts-is = o .counts ∙ ap (λ (k : Came). length (k .rows)) (w .as-contract)
+    counts-is = o .counts ∙ ap (λ (k : WorkedSeconds). length (k .rows)) (w .as-contract)
 
     ends-is : m .worked .ended ≡ c .ended
-    ends-is = o .ends ∙ ap (λ (k : Came). k .ended) (w .as-contract)
+    ends-is = o .ends ∙ ap (λ (k : WorkedSeconds). k .ended) (w .as-contract)
 
     leaves-is : m .left ≡ numbersOf (c .rows) ++ drop (13 * length (c .rows)) (m .lent)
-    leaves-is = o .leaves ∙ ap (λ (k : Came). numbersOf (k .rows) ++ drop (13 * length (k .rows)) (m .lent)) (w .as-contract)
+    leaves-is = o .leaves ∙ ap (λ (k : WorkedSeconds). numbersOf (k .rows) ++ drop (13 * length (k .rows)) (m .lent)) (w .as-contract)
 
     numbers-are : take (13 * n) (m .left) ≡ numbersOf (c .rows)
     numbers-are = rw (counts-is, leaves-is) (take-at (numbersOf (c .rows)) (drop (13 * length (c .rows)) (m .lent)) (13 * length (c .rows)) (numbers-length (c .rows)))
@@ -256,7 +256,7 @@ module _ (st : Station) (given : someFileGives st ≡ true) (tables : Tables st)
           ∙ ap (λ (l : List ℕ). rowsEach xs (length (c .rows)) l) leaves-is
           ∙ w .shows (drop (13 * length (c .rows)) (m .lent));
       told =
-          ap (λ (t : ToldMany). many t)
+          ap (λ (t : ManyAnswer). many t)
           (ap (λ (k : ℕ). record { seconds = k; numbers = take (13 * n) (m .left); ended = m .worked .ended }) counts-is
           ∙ ap (λ (l : List ℕ). record { seconds = length (c .rows); numbers = l; ended = m .worked .ended }) numbers-are
           ∙ ap (λ (e : Ended). record { seconds = length (c .rows); numbers = numbersOf (c .rows); ended = e }) ends-is);
@@ -271,14 +271,14 @@ module _ (st : Station) (given : someFileGives st ≡ true) (tables : Tables st)
 
   -- ---- every list of batches
 
-  record Gone (r : Run) (bs : List Batch) (last : Run) : Type 0 where
+  record AfterBatches (r : Run) (bs : List Batch) (last : Run) : Type 0 where
     inputs : List Inputs
     steps : Steps st r inputs last
     shows : rowsInBatches bs ≡ workedOf st r inputs
-    ruled : map toldBatch bs ≡ ruledBatchesFrom st r (map askedBatch bs)
+    ruled : map batchAnswer bs ≡ ruledBatchesFrom st r (map askedBatch bs)
     kept : ChainedBatches KeptBatch r bs last
 
-  gone-on : (r last : Run) (b : Batch) (bs : List Batch) → Off r b → Gone (runAfter b) bs last → Gone r (b ∷ bs) last
+  gone-on : (r last : Run) (b : Batch) (bs : List Batch) → Off r b → AfterBatches (runAfter b) bs last → AfterBatches r (b ∷ bs) last
   unfolding rowsInBatches ruledBatchesFrom
   gone-on r last b bs w g = record {
     inputs = w .accepts ++ g .inputs;
@@ -288,12 +288,12 @@ module _ (st : Station) (given : someFileGives st ≡ true) (tables : Tables st)
         ∙ ap (λ (l : List Worked). workedOf st r (w .accepts) ++ l) (g .shows)
         ∙ sym (worked-on (w .steps) (g .inputs));
     ruled =
-        ap (λ (t : Told). t ∷ map toldBatch bs) (w .told)
-        ∙ ap (λ (l : List Told). ruledTold st r (askedBatch b) ∷ l) (g .ruled ∙ ap (λ (q : Run). ruledBatchesFrom st q (map askedBatch bs)) (w .hands));
+        ap (λ (t : BatchAnswer). t ∷ map batchAnswer bs) (w .told)
+        ∙ ap (λ (l : List BatchAnswer). ruledAnswer st r (askedBatch b) ∷ l) (g .ruled ∙ ap (λ (q : Run). ruledBatchesFrom st q (map askedBatch bs)) (w .hands));
     kept = more (w .kept) (g .kept);
   }
 
-  gone : {r last : Run} {bs : List Batch} → possible st r ≡ true → ChainedBatches (OwesBatch st) r bs last → Gone r bs last
+  gone : {r last : Run} {bs : List Batch} → possible st r ≡ true → ChainedBatches (OwesBatch st) r bs last → AfterBatches r bs last
   unfolding rowsInBatches ruledBatchesFrom workedOf
   gone h none = record { inputs = []; steps = lists.none; shows = refl; ruled = refl; kept = none }
   gone {r} {last} h (more {b = b} {bs = bs} o rest) =
@@ -303,7 +303,7 @@ module _ (st : Station) (given : someFileGives st ≡ true) (tables : Tables st)
   pub claim-batches : (bs : List Batch) (last : Run) → ChainedBatches (OwesBatch st) (startRecord st) bs last → ClaimBatches st (startRecord st) bs last
   unfolding ruledBatches
   claim-batches bs last chained =
-      let g : Gone (startRecord st) bs last = gone (start-possible st given) chained in
+      let g : AfterBatches (startRecord st) bs last = gone (start-possible st given) chained in
       record {
         as-ruled = g .ruled;
         kept = g .kept;

@@ -75,7 +75,7 @@ kept-by (refused n p) r c worth h l = (record { record-kept = h; buffer-kept = l
 
 module _ (st : Station) (given : someFileGives st ≡ true) (tables : Tables st) where
   -- what is known of a list of calls
-  pub record Gone (r : Run) (cs : List Call) (last : Run) : Type 0 where
+  pub record AfterCalls (r : Run) (cs : List Call) (last : Run) : Type 0 where
     pub inputs : List Inputs
     pub steps : Steps st r inputs last
     pub shows : workedIn cs ≡ workedOf st r inputs
@@ -127,19 +127,19 @@ module _ (st : Station) (given : someFileGives st ≡ true) (tables : Tables st)
     pub stays-possible : possible st (c .handed .run) ≡ true
     stays-possible = ap (possible st) hands ∙ possible-after answer answer-is
 
-    module _ (g : Gone (c .handed .run) cs last) where
+    module _ (g : AfterCalls (c .handed .run) cs last) where
       ruled-on : map told (c ∷ cs) ≡ ruledFrom st r (map asked (c ∷ cs))
       unfolding ruledFrom
       ruled-on = rw told-here (ap (λ (l : List (Answer (List ℕ))). rowBy answer ∷ l) (g .ruled ∙ ap (λ (q : Run). ruledFrom st q (map asked cs)) hands))
 
-      pub gone-on : Gone r (c ∷ cs) last
+      pub gone-on : AfterCalls r (c ∷ cs) last
       unfolding workedIn workedOf workedAt
       gone-on = go (admitted (r .done) (c .inputs) (length (c .lent))) refl
         where
           worked : Step
           worked = step st r (c .inputs)
 
-          go : (b : Answer (Unit {0})) → admitted (r .done) (c .inputs) (length (c .lent)) ≡ b → Gone r (c ∷ cs) last
+          go : (b : Answer (Unit {0})) → admitted (r .done) (c .inputs) (length (c .lent)) ≡ b → AfterCalls r (c ∷ cs) last
           go (accepted u) e =
               let is : answer ≡ accepted worked = ap (λ (b : Answer (Unit {0})). b >> accepted worked) e in
               let after : c .handed .run ≡ worked .run = hands ∙ ap (recordHanded r) is in
@@ -166,7 +166,7 @@ module _ (st : Station) (given : someFileGives st ≡ true) (tables : Tables st)
                 kept = more kept-here (g .kept);
               }
 
-  pub gone : {r last : Run} {cs : List Call} → possible st r ≡ true → Chained (Owes st) r cs last → Gone r cs last
+  pub gone : {r last : Run} {cs : List Call} → possible st r ≡ true → Chained (Owes st) r cs last → AfterCalls r cs last
   unfolding workedIn workedOf ruledFrom
   gone {r} h none = record { inputs = []; steps = lists.none; shows = refl; ruled = refl; kept = none }
   gone {r} {last} h (more {c = c} {cs = cs} o rest) = gone-on r last c cs h o (gone (stays-possible r last c cs h o) rest)

@@ -12,12 +12,12 @@ use Rattle.rules.proofs.Shapes.{Tables}
 use Rattle.rules.proofs.Start.{start-possible}
 use Rattle.claims_rules.specs.Claim.{ruled, Claim}
 use Rattle.claims_rules.proofs.OverRows.{over-rows, last-record}
-use Rattle.claims_rules.proofs.Calls.{Owes, Gone, gone}
+use Rattle.claims_rules.proofs.Calls.{Owes, AfterCalls, gone}
 
 pub claim : (st : Station) → someFileGives st ≡ true → Tables st → (cs : List Call) (last : Run) → Chained (Owes st) (startRecord st) cs last → Claim st (startRecord st) cs last
 unfolding ruled
 claim st given tables cs last calls =
-    let g : Gone st given tables (startRecord st) cs last = gone st given tables (start-possible st given) calls in
+    let g : AfterCalls st given tables (startRecord st) cs last = gone st given tables (start-possible st given) calls in
     record {
       as-ruled = g .ruled;
       kept = g .kept;

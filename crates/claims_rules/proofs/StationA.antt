@@ -34,7 +34,7 @@ use Rattle.claims_rules.specs.Shown.{numbersIn, shownIn, shown, Worked, 
 use Rattle.claims_rules.specs.Replay.{Replay, atFirst, modesIn, clocksIn, countsIn, heldIn, following, followedTo, replayed}
 use Rattle.claims_rules.specs.Burned.{powersOf}
 use Rattle.claims_rules.specs.Claim.{workedIn, Asked, ruledFrom, ruled, metBy}
-use Rattle.claims_rules.specs.Batches.{one, many, Batch, Told, AskedBatch, cameBy, ruledBatchesFrom, ruledBatches, rowsEach, rowsInBatches}
+use Rattle.claims_rules.specs.Batches.{one, many, Batch, BatchAnswer, AskedBatch, cameBy, ruledBatchesFrom, ruledBatches, rowsEach, rowsInBatches}
 
 handed : ℕ → ℕ → ℕ → Inputs
 handed load solar sheddable = record { load = load; solar = solar; sheddable = sheddable }
@@ -98,7 +98,7 @@ numbers4 = 4 ∷ 30000 ∷ 0 ∷ 0 ∷ 20000 ∷ 20000 ∷ 0 ∷ 30000 ∷ 0 ∷
 asksMany : List ℕ → ℕ → AskedBatch
 asksMany inputs room = many (record { inputs = inputs; room = room })
 
-tells : ℕ → List ℕ → Ended → Told
+tells : ℕ → List ℕ → Ended → BatchAnswer
 tells seconds numbers ended = many (record { seconds = seconds; numbers = numbers; ended = ended })
 
 -- a call of one second and calls of many go on from each other's record, whichever is refused or ends early

@@ -14,7 +14,7 @@ use Rattle.rules.specs.declared.run.Worked as answer
 use Rattle.rules.specs.Answers.{Answer}
 use Rattle.rules.specs.RunRecord.{startRecord}
 use Rattle.rules.specs.Second.{recordHanded}
-use Rattle.rules.specs.Seconds.{inputsEach, numbersOf, Came, cameOn}
+use Rattle.rules.specs.Seconds.{inputsEach, numbersOf, WorkedSeconds, cameOn}
 use Rattle.rules.specs.Calls.{Call}
 use Rattle.claims_rules.specs.Shown.{Worked, inColumns}
 use Rattle.claims_rules.specs.Claim.{told, workedIn, Asked, asked, secondBy, rowBy, countedBy, OverRows, LastRecord, Kept}
@@ -43,17 +43,17 @@ runAfter (many m) = m .worked .run
 -- ---- as a caller is told: of one second its row's bytes or its refusal; of many how many were worked, their rows' numbers, and why they
 -- are no more
 
-pub record ToldMany : Type 0 where
+pub record ManyAnswer : Type 0 where
   pub seconds : ℕ
   pub numbers : List ℕ
   pub ended : Ended
 
-abbrev pub Told : Type 0
-Told = OneOrMany (Answer (List ℕ)) ToldMany
+abbrev pub BatchAnswer : Type 0
+BatchAnswer = OneOrMany (Answer (List ℕ)) ManyAnswer
 
-abbrev pub toldBatch : Batch → Told
-toldBatch (one c) = one (told c)
-toldBatch (many m) =
+abbrev pub batchAnswer : Batch → BatchAnswer
+batchAnswer (one c) = one (told c)
+batchAnswer (many m) =
     many (record { seconds = m .worked .seconds; numbers = take (13 * m .worked .seconds) (m .left); ended = m .worked .ended })
 
 -- ---- what the rules give, by station, inputs and lent lengths alone
@@ -70,32 +70,32 @@ askedBatch (one c) = one (asked c)
 askedBatch (many m) = many (record { inputs = m .inputs; room = length (m .lent) })
 
 -- seconds of the rules one after the other, as long as there is room for a row: 24 and 25 end none of them
-unfoldable pub cameBy : Station → Run → List Inputs → ℕ → Came
+unfoldable pub cameBy : Station → Run → List Inputs → ℕ → WorkedSeconds
 cameBy st r [] room = record { run = r; rows = []; ended = AllWorked }
 cameBy st r (x ∷ xs) zero = record { run = r; rows = []; ended = NoRoom }
 cameBy st r (x ∷ xs) (suc room) =
     cameOn r (secondBy st r (record { inputs = x; room = 256 })) (λ s. cameBy st (s .run) xs room)
 
 -- a row has thirteen numbers
-abbrev pub cameAsked : Station → Run → AskedMany → Came
+abbrev pub cameAsked : Station → Run → AskedMany → WorkedSeconds
 cameAsked st r a = cameBy st r (inputsEach (a .inputs)) (a .room / 13)
 
-abbrev pub toldCame : Came → ToldMany
-toldCame c = record { seconds = length (c .rows); numbers = numbersOf (c .rows); ended = c .ended }
+abbrev pub answerCame : WorkedSeconds → ManyAnswer
+answerCame c = record { seconds = length (c .rows); numbers = numbersOf (c .rows); ended = c .ended }
 
-abbrev pub ruledTold : Station → Run → AskedBatch → Told
-ruledTold st r (one a) = one (rowBy (secondBy st r a))
-ruledTold st r (many a) = many (toldCame (cameAsked st r a))
+abbrev pub ruledAnswer : Station → Run → AskedBatch → BatchAnswer
+ruledAnswer st r (one a) = one (rowBy (secondBy st r a))
+ruledAnswer st r (many a) = many (answerCame (cameAsked st r a))
 
 abbrev pub ruledRun : Station → Run → AskedBatch → Run
 ruledRun st r (one a) = recordHanded r (secondBy st r a)
 ruledRun st r (many a) = cameAsked st r a .run
 
-unfoldable pub ruledBatchesFrom : Station → Run → List AskedBatch → List Told
+unfoldable pub ruledBatchesFrom : Station → Run → List AskedBatch → List BatchAnswer
 ruledBatchesFrom st r [] = []
-ruledBatchesFrom st r (a ∷ more) = ruledTold st r a ∷ ruledBatchesFrom st (ruledRun st r a) more
+ruledBatchesFrom st r (a ∷ more) = ruledAnswer st r a ∷ ruledBatchesFrom st (ruledRun st r a) more
 
-unfoldable pub ruledBatches : Station → List AskedBatch → List Told
+unfoldable pub ruledBatches : Station → List AskedBatch → List BatchAnswer
 ruledBatches st asked = ruledBatchesFrom st (startRecord st) asked
 
 -- ---- the rows
@@ -144,7 +144,7 @@ pub data ChainedBatches (One : Run → Batch → Type 0) : Run → List Batch �
   more : {r last : Run} {b : Batch} {bs : List Batch} → One r b → ChainedBatches One (runAfter b) bs last → ChainedBatches One r (b ∷ bs) last
 
 pub record ClaimBatches (st : Station) (first : Run) (batches : List Batch) (last : Run) : Type 0 where
-  pub as-ruled : map toldBatch batches ≡ ruledBatches st (map askedBatch batches)
+  pub as-ruled : map batchAnswer batches ≡ ruledBatches st (map askedBatch batches)
   pub kept : ChainedBatches KeptBatch first batches last
   pub over-rows : OverRows st (rowsInBatches batches) (last .store) (countedBy last)
   pub last-record : LastRecord st (rowsInBatches batches) last

@@ -1,5 +1,4 @@
 // Steps 9 and 10 together.
-ghost use mathlib.Core.Path.{_≡_};
 ghost use Rattle.commitment.specs.Commit.{CommittedBy};
 use crate::configuration::chosen;
 use crate::setpoint::held_after;

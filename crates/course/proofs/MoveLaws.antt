@@ -13,7 +13,7 @@ use Rattle.rules.specs.declared.run.Row.{Row}
 use Rattle.rules.specs.declared.run.Worked.{Worked}
 use Rattle.rules.specs.declared.samples.Sample.{Sample}
 use Rattle.rules.specs.Answers.{isAccepted}
-use Rattle.rules.specs.Seconds.{inputsEach, numbersOf, Came, cameTo, Seconds}
+use Rattle.rules.specs.Seconds.{inputsEach, numbersOf, WorkedSeconds, cameTo, Seconds}
 use Rattle.dispatch.specs.Working.{rowsOf, runAfter}
 use Rattle.dispatch.proofs.Working.{rows-count}
 use Rattle.samples.specs.declared.inputs.InputSource.{InputSource}
@@ -83,7 +83,7 @@ seconds-move c source next xs inputs lent left w e s =
     let same : cameTo (c .station) (c .run) (inputsEach inputs) (length lent / 13) ≡ cameIn c xs lent = ap (λ (l : List Inputs). cameTo (c .station) (c .run) l (length lent / 13)) e in
     record {
       moved-is = rw (s .hands, s .counts, s .ends, same);
-      left-is = s .leaves ∙ ap (λ (y : Came). numbersOf (y .rows) ++ drop (13 * length (y .rows)) lent) same;
+      left-is = s .leaves ∙ ap (λ (y : WorkedSeconds). numbersOf (y .rows) ++ drop (13 * length (y .rows)) lent) same;
     }
 
 -- no more seconds are worked than inputs were handed
@@ -101,7 +101,7 @@ module _ (c : Course) (chunk : List ℕ) (at : ℕ) (ended : Bool) (lent : List 
   abbrev xs : List Inputs
   xs = inputsIn (f .seconds) loads solars sheddables
 
-  abbrev came : Came
+  abbrev came : WorkedSeconds
   came = cameIn c xs lent
 
   sm : Some (c .station) (c .run) xs (length lent / 13) came

@@ -18,7 +18,7 @@ use Rattle.rules.specs.Answers.{Answer, accepted, refused}
 use Rattle.rules.specs.StationRecord.{someFileGives}
 use Rattle.rules.specs.RunRecord.{possible, mostSeconds}
 use Rattle.rules.specs.Second.{step, recordAfter, second, admitted, inputsRight}
-use Rattle.rules.specs.Seconds.{ruled, Came, cameOn, cameTo}
+use Rattle.rules.specs.Seconds.{ruled, WorkedSeconds, cameOn, cameTo}
 use Rattle.rules.proofs.Shapes.{Tables}
 use Rattle.laws.proofs.Kept.{admitted-of, second-kept}
 use Rattle.dispatch.specs.Working.{rowsOf, runAfter}
@@ -28,7 +28,7 @@ module _ (st : Station) where
   -- ---- whatever the inputs are
 
   -- the seconds from a record on came to c: `worked` are those accepted, and all of them where there is room and nothing was refused
-  pub record Some (r : Run) (xs : List Inputs) (room : ℕ) (c : Came) : Type 0 where
+  pub record Some (r : Run) (xs : List Inputs) (room : ℕ) (c : WorkedSeconds) : Type 0 where
     pub worked : List Inputs
     pub others : List Inputs
     pub are : xs ≡ worked ++ others
@@ -43,7 +43,7 @@ module _ (st : Station) where
   unfolding rowsOf runAfter AllRuled
   none-worked r xs room e h k = record { worked = []; others = xs; are = refl; accepts = tt; rows-is = refl; run-is = refl; fits = omega arith; all = h; roomy = k }
 
-  one-more : (r : Run) (x : Inputs) (xs : List Inputs) (room : ℕ) (c : Came) → ruled st r x ≡ accepted (step st r x) → Some (step st r x .run) xs room c
+  one-more : (r : Run) (x : Inputs) (xs : List Inputs) (room : ℕ) (c : WorkedSeconds) → ruled st r x ≡ accepted (step st r x) → Some (step st r x .run) xs room c
       → Some r (x ∷ xs) (suc room) (record { run = c .run; rows = step st r x .row ∷ c .rows; ended = c .ended })
   unfolding rowsOf runAfter AllRuled
   one-more r x xs room c a s =
@@ -96,7 +96,7 @@ module _ (st : Station) where
       done-is = refl
 
     -- the seconds from a record on are all accepted, and leave a possible record
-    pub record All (r : Run) (xs : List Inputs) (c : Came) : Type 0 where
+    pub record All (r : Run) (xs : List Inputs) (c : WorkedSeconds) : Type 0 where
       pub ends : c .ended ≡ AllWorked
       pub stays : possible st (c .run) ≡ true
       pub done-is : c .run .done ≡ r .done + length xs
@@ -114,7 +114,7 @@ module _ (st : Station) where
         let later = all-worked (s .run) xs room (stays-possible r x p in-time right) rights (omega (arith, d)) (omega arith) in
         let same : cameTo st r (x ∷ xs) (suc room) ≡ cameOn r (accepted s) (λ s. cameTo st (s .run) xs room) = ap (λ (b : Answer Step). cameOn r b (λ s. cameTo st (s .run) xs room)) a in
         record {
-          ends = ap (λ (c : Came). c .ended) same ∙ later .ends;
-          stays = ap (λ (c : Came). possible st (c .run)) same ∙ later .stays;
-          done-is = ap (λ (c : Came). c .run .done) same ∙ later .done-is ∙ (let z : s .run .done + length xs ≡ r .done + length (x ∷ xs) = omega (arith, d) in z);
+          ends = ap (λ (c : WorkedSeconds). c .ended) same ∙ later .ends;
+          stays = ap (λ (c : WorkedSeconds). possible st (c .run)) same ∙ later .stays;
+          done-is = ap (λ (c : WorkedSeconds). c .run .done) same ∙ later .done-is ∙ (let z : s .run .done + length xs ≡ r .done + length (x ∷ xs) = omega (arith, d) in z);
         }

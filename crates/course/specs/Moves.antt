@@ -6,7 +6,7 @@ use mathlib.Core.List.{List, [], _++_}
 use lib.ListN.{length, drop}
 use Rattle.rules.specs.declared.answers.Ended.{Ended}
 use Rattle.rules.specs.declared.run.Inputs.{Inputs}
-use Rattle.rules.specs.Seconds.{numbersOf, Came, cameTo}
+use Rattle.rules.specs.Seconds.{numbersOf, WorkedSeconds, cameTo}
 use Rattle.dispatch.specs.Working.{rowsOf, runAfter}
 use Rattle.samples.specs.declared.inputs.InputSource.{InputSource}
 use Rattle.samples.specs.Held.{sourceEnded, placesOf, EndedRight}
@@ -76,7 +76,7 @@ haltFor Ended.NoRoom = Halt.Further
 haltFor Ended.BeforeRefused = Halt.Broken
 
 -- after seconds that came to this
-abbrev pub withSeconds : Course → InputSource → ℕ → Came → Moved
+abbrev pub withSeconds : Course → InputSource → ℕ → WorkedSeconds → Moved
 withSeconds c source next came =
     record {
       course = record { station = c .station; run = came .run; source = source; left = c .left - length (came .rows) };
@@ -86,7 +86,7 @@ withSeconds c source next came =
     }
 
 -- the seconds of these inputs, as many as the lent rows have places for
-abbrev pub cameIn : Course → List Inputs → List ℕ → Came
+abbrev pub cameIn : Course → List Inputs → List ℕ → WorkedSeconds
 cameIn c xs lent = cameTo (c .station) (c .run) xs (length lent / 13)
 
 pub record SecondsMoved (c : Course) (source : InputSource) (next : ℕ) (xs : List Inputs) (lent : List ℕ) (r : Moved) (left : List ℕ) : Type 0 where

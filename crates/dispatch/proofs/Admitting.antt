@@ -14,7 +14,7 @@ use Rattle.rules.specs.declared.answers.Refusal.{Refusal}
 use Rattle.rules.specs.declared.run.Inputs.{Inputs}
 use Rattle.rules.specs.Answers.{accepted, isAccepted, verdictOf}
 use Rattle.rules.specs.RunRecord.{mostSeconds}
-use Rattle.rules.specs.Second.{inputsRight, admitted}
+use Rattle.rules.specs.Second.{admitted}
 use Rattle.rules.specs.Seconds.{inputsEach}
 use Rattle.rules.proofs.Checks.{passed}
 use Rattle.dispatch.specs.Working.{firstInputs, admittedTo}

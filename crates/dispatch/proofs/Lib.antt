@@ -6,7 +6,7 @@ pub mod Ready
 pub mod Ruled
 pub mod Owed
 pub mod Each
-pub mod Came
+pub mod WorkedSeconds
 pub mod Admitting
 pub mod Working
 pub mod AskNothing

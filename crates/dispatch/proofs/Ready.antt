@@ -1,39 +1,32 @@
 -- What is known of an admitted second: every count is small, and every set that is On has passed its checks. Assumes nothing.
-use Prim.Native.Nat.{ℕ, zero, suc, _-_, _*_, _≤_, _<_, min}
+use Prim.Native.Nat.{ℕ, zero, suc, _*_, _≤_, _<_, min}
 use mathlib.Core.Path.{_≡_, refl, sym, ap, _∙_}
 use mathlib.Core.Bool.{Bool, true, false}
 use mathlib.Core.List.{List, [], _∷_}
 use native.Mathlib.Omega.{arith}
-use native.Mathlib.Nat.{mul-le-mul, mul-le-mul-left, le-trans}
+use native.Mathlib.Nat.{mul-le-mul}
 use lib.Dec.{leb, ltb, eqb}
-use lib.ListN.{length, getD}
+use lib.ListN.{getD}
 use borrow.Author.Tests.{leb-true, ltb-true, eqb-true}
-use Rattle.rules.specs.declared.station.Control.{Control}
 use Rattle.rules.specs.declared.station.GenSet.{GenSet}
 use Rattle.rules.specs.declared.station.Station.{Station}
 use Rattle.rules.specs.declared.run.Mode.the-variants.{Off}
 use Rattle.rules.specs.declared.run.SetState.{SetState}
 use Rattle.rules.specs.declared.run.Inputs.{Inputs}
 use Rattle.rules.specs.declared.run.Run.{Run}
-use Rattle.rules.specs.declared.run.Watts.{Watts}
-use Rattle.rules.specs.Numbers.{has, every, allZero}
+use Rattle.rules.specs.Numbers.{every, allZero}
 use Rattle.rules.specs.StationRecord.{setAt, setRight, pairsRight, someFileGives}
-use Rattle.rules.specs.Share.{capacity, share}
-use Rattle.rules.specs.Modes.{fresh, stateAt, isOff, isOn, tickFrom, tick, ticked, onMask}
-use Rattle.rules.specs.Flows.{dieselFor, wattsWith, wattsFor, restOf}
-use Rattle.rules.specs.Setpoint.{coverageOf, reserve, wantedFor}
-use Rattle.rules.specs.Commands.{counted, countedAll}
+use Rattle.rules.specs.Share.{capacity}
+use Rattle.rules.specs.Modes.{fresh, stateAt, isOff, isOn, tickFrom, tick, ticked}
+use Rattle.rules.specs.Flows.{dieselFor, wattsWith, wattsFor}
 use Rattle.rules.specs.RunRecord.{mostSeconds, modePossible, countsPossible, statePossible, statesPossible, totalRules, recordRules, possible}
-use Rattle.rules.specs.Second.{statesNow, onNow, capNow, floorNow, wattsNow, ranNow, heldNow, callNow}
-use Rattle.rules.proofs.Tests.{never, both, all-at, to-at, choice}
+use Rattle.rules.specs.Second.{statesNow, onNow, capNow, wattsNow}
+use Rattle.rules.proofs.Tests.{never, both, all-at, to-at}
 use Rattle.rules.proofs.Tables.{tab-at}
 use Rattle.rules.proofs.Shapes.{Tables}
-use Rattle.rules.proofs.StationFacts.{right-of, spinning-most, coverage-most}
-use Rattle.rules.proofs.Masks.{mask-has}
+use Rattle.rules.proofs.StationFacts.{right-of}
 use Rattle.laws.specs.Admitted.{Admitted}
-use Rattle.laws.proofs.Balance.{load-met}
 use Rattle.laws.proofs.StationAt.{set-at}
-use Rattle.laws.proofs.KeptRest.{chosen-most, watts-small}
 use Rattle.laws.proofs.KeptSets.{Within, from-rules, tick-counts, off-only}
 use Rattle.gensets.proofs.FileCapacity.{rating-most, capacity-most}
 use Rattle.commitment.specs.Choice.{capacities, Rated}

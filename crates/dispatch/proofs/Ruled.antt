@@ -1,11 +1,10 @@
 -- Of a second that the rules admit, with the station's own table of capacities, the steps are the rules' own: every count and sum fits its
 -- type. Assumes nothing.
-use Prim.Native.Nat.{ℕ, zero, suc, _+_, _*_, _≤_, _<_, max}
+use Prim.Native.Nat.{ℕ, zero, suc, _+_, _≤_, _<_, max}
 use mathlib.Core.Path.{_≡_, refl, sym, ap, _∙_}
 use mathlib.Core.Bool.{Bool, true, false}
-use mathlib.Core.List.{List, [], _∷_}
+use mathlib.Core.List.{List}
 use native.Mathlib.Omega.{arith}
-use lib.Dec.{ltb, eqb}
 use lib.ListN.{length, getD}
 use borrow.Author.Tests.{eq-eqb, le-ltb}
 use Rattle.rules.specs.declared.station.GenSet.{GenSet}
@@ -19,7 +18,7 @@ use Rattle.rules.specs.declared.run.Row.{Row}
 use Rattle.rules.specs.declared.run.Run.{Run}
 use Rattle.rules.specs.declared.run.Step.{Step}
 use Rattle.rules.specs.declared.run.Watts.{Watts}
-use Rattle.rules.specs.Numbers.{if_then_else_, has, tab}
+use Rattle.rules.specs.Numbers.{has, tab}
 use Rattle.rules.specs.StationRecord.{setAt, setRight, pairsRight}
 use Rattle.rules.specs.Share.{capacity, share}
 use Rattle.rules.specs.Fuel.{fuelRate}
@@ -37,7 +36,7 @@ use Rattle.laws.proofs.Share.{share-most}
 use Rattle.laws.proofs.FuelMost.{rate-most}
 use Rattle.laws.proofs.KeptRest.{watts-small}
 use Rattle.gensets.specs.Burned.{perHour}
-use Rattle.gensets.specs.Leaves.{sharesTold, rateTold, unshared}
+use Rattle.gensets.specs.Leaves.{sharesTold, rateTold}
 use Rattle.gensets.proofs.FuelFacts.{rate-known}
 use Rattle.flows.specs.Amounts.{decidedIn}
 use Rattle.commitment.specs.Choice.{Rated}

@@ -1,18 +1,16 @@
 -- The steps one after the other, as the code takes them: what each call answered is what `Steps` names. Assumes nothing.
 use Prim.Native.Nat.{ℕ, min}
-use mathlib.Core.Path.{_≡_, refl, ap, _∙_}
+use mathlib.Core.Path.{_≡_, ap, _∙_}
 use mathlib.Core.List.{List}
 use lib.ListN.{getD}
 use Rattle.rules.specs.declared.station.Station.{Station}
 use Rattle.rules.specs.declared.run.SetState.{SetState}
 use Rattle.rules.specs.declared.run.Inputs.{Inputs}
-use Rattle.rules.specs.declared.run.Row.{Row}
 use Rattle.rules.specs.declared.run.Run.{Run}
 use Rattle.rules.specs.declared.run.Watts.{Watts}
 use Rattle.rules.specs.Share.{capacity}
 use Rattle.rules.specs.Modes.{ticked, onMask}
-use Rattle.rules.specs.Flows.{floorLoad, wattsFor, storeAfter, restOf, shedDecided}
-use Rattle.rules.specs.Setpoint.{wantedFor, heldAfter}
+use Rattle.rules.specs.Flows.{floorLoad}
 use Rattle.rules.specs.Configuration.{maskCalled}
 use Rattle.rules.specs.Second.{statesNow, onNow, capNow, floorNow, storeNow, heldNow}
 use Rattle.modes.specs.Barred.{barredMask}

@@ -11,7 +11,6 @@ use Rattle.rules.specs.Numbers.{if_then_else_, has, tab}
 use Rattle.rules.specs.StationRecord.{setAt}
 use Rattle.rules.specs.Modes.{stateAt}
 use Rattle.rules.specs.Commands.{command, everyOn}
-use Rattle.rules.specs.Second.{plus}
 use Rattle.gensets.specs.Burned.{perHour}
 use Rattle.gensets.specs.Leaves.{sharesTold, rateTold}
 

@@ -1,7 +1,6 @@
 -- Many seconds as they are worked: how many the rules admit one after the other, and what those come to on the way.
 use Prim.Native.Nat.{ℕ, zero, suc, _+_, _*_, _≤_}
 use mathlib.Core.Path.{_≡_}
-use mathlib.Core.Bool.{Bool}
 use mathlib.Core.List.{List, [], _∷_, _++_}
 use lib.Dec.{eqb}
 use lib.ListN.{length, take, drop}
@@ -16,7 +15,7 @@ use Rattle.rules.specs.Answers.{isAccepted}
 use Rattle.rules.specs.StationRecord.{someFileGives}
 use Rattle.rules.specs.RunRecord.{possible}
 use Rattle.rules.specs.Second.{step, admitted}
-use Rattle.rules.specs.Seconds.{Came, numbersOf}
+use Rattle.rules.specs.Seconds.{WorkedSeconds, numbersOf}
 use Rattle.laws.specs.Admitted.{Admitted}
 use Rattle.dispatch.specs.declared.admit.Judged.{Judged}
 
@@ -42,7 +41,7 @@ admittedOf st r xs room = if someFileGives st then (if possible st r then admitt
 unfoldable pub endedAt : ℕ → ℕ → ℕ → Ended
 endedAt count asked room = if eqb count asked then AllWorked else if eqb count room then NoRoom else BeforeRefused
 
-pub record JudgedBy (c : Came) (j : Judged) : Type 0 where
+pub record JudgedBy (c : WorkedSeconds) (j : Judged) : Type 0 where
   pub counts : j .seconds ≡ length (c .rows)
   pub ends : j .ended ≡ c .ended
 

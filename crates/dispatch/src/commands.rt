@@ -1,6 +1,6 @@
 // Step 11: the commands to each set.
 ghost use mathlib.Core.Path.{_≡_};
-ghost use Prim.Native.Nat.{_<_, _≤_};
+ghost use Prim.Native.Nat.{_<_};
 ghost use Rattle.rules.specs.Numbers.{has};
 ghost use Rattle.rules.specs.Commands.{started, stopped, command, everyOn};
 ghost use Rattle.dispatch.specs.InType.{switchedIn, commandedAllIn};

@@ -1,5 +1,4 @@
 // The eleven steps of a second: the record after it, and its row.
-ghost use mathlib.Core.Path.{_≡_};
 ghost use Rattle.commitment.specs.Commit.{CommittedBy};
 ghost use Rattle.dispatch.specs.Parts.{runOf};
 ghost use Rattle.dispatch.specs.Steps.{SteppedBy};

@@ -1,5 +1,4 @@
 // Steps 3 to 7 together.
-ghost use mathlib.Core.Path.{_≡_};
 ghost use Rattle.flows.specs.Met.{MetBy};
 use crate::amounts::shed_decided;
 use crate::flow::flow;

@@ -1,10 +1,9 @@
 -- A line whose numbers a file may have: how large the numbers on the way to its height are, its rate case by case, and that a line in rule is
 -- such a one. Assumes nothing.
-use mathlib.Core.Path.{_≡_, refl, sym, _∙_}
+use mathlib.Core.Path.{_≡_, sym}
 use mathlib.Core.Bool.{true, false}
 use Prim.Native.Nat.{ℕ, suc, _*_, _/_, _≤_, _<_}
 use native.Mathlib.Nat.{mul-le-mul}
-use native.Mathlib.Omega.{arith}
 use lib.ListN.{getD}
 use borrow.Author.Tests.{le-leb, lt-leb, lt-ltb, leb-true}
 use Rattle.rules.specs.declared.station.GenSet.{GenSet}

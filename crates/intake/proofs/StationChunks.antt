@@ -38,7 +38,7 @@ pub record Fed (f : StationBytes) (chunk : List ℕ) (g : StationBytes) : Type 0
   pub returned : more-station-reads.Post κs args g exit
 
 -- `is_station_refused` was handed f, and answered b
-pub record Told (f : StationBytes) (b : Bool) : Type 0 where
+pub record AnsweredRefused (f : StationBytes) (b : Bool) : Type 0 where
   pub κs : Lfts 0
   pub args : kinds.Dens κs is-station-refused-kinds.ps
   pub exit : clauses.AtExit (kinds.endedOf 0 is-station-refused-kinds.ps is-station-refused-kinds.r) κs
@@ -78,7 +78,7 @@ pub station-of-chunks : (chunks : List (List ℕ)) (first last : StationBytes) �
 station-of-chunks chunks first last b f = station-with-chunks chunks first last [] b f ∙ ap stationFile (append-nil (joined chunks))
 
 -- the file is told to be refused where document 01 refuses it
-pub refused-of-chunks : (chunks : List (List ℕ)) (first last : StationBytes) (b : Bool) → Begun first → Feeds Fed first chunks last → Told last b
+pub refused-of-chunks : (chunks : List (List ℕ)) (first last : StationBytes) (b : Bool) → Begun first → Feeds Fed first chunks last → AnsweredRefused last b
     → b ≡ isRefused (stationFile (joined chunks))
 refused-of-chunks chunks first last b g f t =
     let p : b ≡ isRefused (stationWith (t .args .0) []) = t .returned in

@@ -1,6 +1,6 @@
 // A count and a checksum of the bytes of a pass: where those of two passes differ, the file changed between them.
 ghost use mathlib.Core.Path.{_≡_};
-ghost use Prim.Native.Nat.{_+_, _*_, _^_, _≤_, _<_};
+ghost use Prim.Native.Nat.{_+_, _*_, _≤_, _<_};
 ghost use lib.ListN.{length, drop, getD};
 ghost use Rattle.intake.specs.Tally.{noBytes, worth, atWordEnd, withByte, talliedOf, sameTally, WordTallied, WordsTallied};
 use std::num::wrapping_add_u64;

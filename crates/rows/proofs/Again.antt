@@ -4,7 +4,7 @@ use mathlib.Core.Path.{_≡_, sym, ap, _∙_}
 use mathlib.Core.List.{List, [], _∷_, _++_, append-assoc}
 use native.Mathlib.Omega.{arith}
 use native.Mathlib.Numerals.{add-one}
-use lib.ListN.{length, take, drop, set, getD, length-append, length-take, length-drop, List·getD-append}
+use lib.ListN.{length, take, drop, set, getD, length-take, length-drop, List·getD-append}
 use lib.Seq.{getD-take, getD-drop, take-suc, take-all}
 use Rattle.rows.specs.Written.{Front, placed}
 use Rattle.rows.proofs.Texts.{byte-more, stands}

@@ -19,7 +19,7 @@ use Rattle.rules.specs.Setpoint
 use Rattle.rules.specs.Setpoint.{coverageOf, reserve, wantedFor, float, heldAfter}
 use Rattle.rules.specs.Configuration
 use Rattle.rules.specs.Configuration.{maskCalled, chosen, sinceAfter}
-use Rattle.rules.specs.Cases.{Case, _shows_}
+use Rattle.rules.specs.Cases.{Case}
 use Rattle.rules.proofs.EdgeRecords.{_is_, given, said, stationWith, stateWith}
 
 -- ---- 9. Setpoint.

@@ -22,7 +22,7 @@ use Rattle.rules.specs.Commands
 use Rattle.rules.specs.RunRecord
 use Rattle.rules.specs.Second
 use Rattle.rules.specs.Seconds
-use Rattle.rules.specs.Seconds.{numbersOf, Came, cameOf}
+use Rattle.rules.specs.Seconds.{numbersOf, WorkedSeconds, cameOf}
 use Rattle.rules.specs.Cases.{Case, _shows_}
 use Rattle.rules.proofs.EdgeRecords.{given, said, stationWith}
 use Rattle.rules.proofs.EdgeSecond.{control, battery, sets, station, numbered, short, firstNumbers}
@@ -33,7 +33,7 @@ endNumber AllWorked = 1
 endNumber NoRoom = 2
 endNumber BeforeRefused = 3
 
-abbrev left : Came → List ℕ
+abbrev left : WorkedSeconds → List ℕ
 left c = endNumber (c .ended) ∷ firstNumbers (c .run) ++ numbersOf (c .rows)
 
 abbrev comes : Ended → List ℕ → List ℕ → List ℕ

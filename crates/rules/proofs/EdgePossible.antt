@@ -2,7 +2,7 @@
 -- A test that holds shows 1, and one that does not 0. By computation. Assumes nothing.
 use Prim.Native.Nat.{ℕ}
 use mathlib.Core.Path.{_≡_, refl}
-use mathlib.Core.Bool.{Bool, true, false}
+use mathlib.Core.Bool.{Bool}
 use mathlib.Core.List.{List, [], _∷_, _++_, map}
 use lib.ListN.{take, drop, getD, set, replicate}
 use Rattle.rules.specs.declared.station.Station.{Station}

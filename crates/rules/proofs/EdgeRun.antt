@@ -25,7 +25,7 @@ use Rattle.rules.specs.Run
 use Rattle.rules.specs.Run.{secondsAsked, printed}
 use Rattle.rules.specs.Cases
 use Rattle.rules.specs.Cases.{Case, _shows_, stationA, samplesA}
-use Rattle.rules.proofs.EdgeRecords.{_is_, refuses, accepts, given, said, stationWith}
+use Rattle.rules.proofs.EdgeRecords.{refuses, accepts, given, said, stationWith}
 
 -- the number answered, or the refusal
 abbrev shown : Answer ℕ → List ℕ

@@ -7,9 +7,7 @@ use lib.ListN.{take, set, replicate}
 use lib.Ieee
 use lib.Count
 use Rattle.rules.specs.declared.station.Station.{Station}
-use Rattle.rules.specs.declared.run.Mode.{Mode}
-use Rattle.rules.specs.declared.run.Mode.the-variants.{Off, Warming, On, Cooling, Service}
-use Rattle.rules.specs.declared.run.SetState.{SetState}
+use Rattle.rules.specs.declared.run.Mode.the-variants.{Off, Warming, On}
 use Rattle.rules.specs.declared.run.Held.{Held}
 use Rattle.rules.specs.declared.run.Held.the-variants.{Absent, At}
 use Rattle.rules.specs.declared.run.Totals.{Totals}
@@ -35,7 +33,7 @@ use Rattle.rules.specs.Row.{columns, rowText}
 use Rattle.rules.specs.Second
 use Rattle.rules.specs.Second.{step, second, lengthAnswered, recordHanded, bufferLeft}
 use Rattle.rules.specs.Cases.{Case, _shows_}
-use Rattle.rules.proofs.EdgeRecords.{_is_, refuses, accepts, given, said, joined, stationWith, stateWith, stateNumbers, runWith}
+use Rattle.rules.proofs.EdgeRecords.{refuses, accepts, given, said, joined, stationWith, stateWith, stateNumbers, runWith}
 
 -- ---- the station: shed delay 2 s, k 500, minimum seconds 3; set 1 has service interval 50 s, warm-up 2 s and cool-down 3 s
 

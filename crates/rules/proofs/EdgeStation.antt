@@ -2,8 +2,8 @@
 -- order. By computation. Assumes nothing.
 use Prim.Native.Nat.{ℕ, _+_, _*_}
 use mathlib.Core.Path.{_≡_, refl}
-use mathlib.Core.List.{List, [], _∷_, _++_, map}
-use lib.ListN.{length, take, drop, set, replicate}
+use mathlib.Core.List.{List, [], _∷_, _++_}
+use lib.ListN.{take, drop, set, replicate}
 use Rattle.rules.specs.Numbers
 use Rattle.rules.specs.Bytes
 use Rattle.rules.specs.Bytes.{bytesOfAll}

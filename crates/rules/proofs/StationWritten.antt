@@ -13,7 +13,7 @@ use Rattle.rules.specs.declared.station.GenSet.{GenSet}
 use Rattle.rules.specs.declared.station.Station.{Station}
 use Rattle.rules.specs.Numbers.{within, existingOnly, every, allZero}
 use Rattle.rules.specs.Bytes.{little, littles, bytesOf, bytesOfAll}
-use Rattle.rules.specs.Answers.{Answer, accepted, need, _>>=_, _>>_}
+use Rattle.rules.specs.Answers.{Answer, accepted, need, _>>_}
 use Rattle.rules.specs.StationRecord.{noSet, setRight, pairsRight, configurationRight, setsRight, configurationsRight, valuesRight, setUnused, unusedRules, someFileGives}
 use Rattle.rules.specs.StationFile.{kindAt, countAt, offsetAt, setsKind, setSize, controlOffset, batteryOffset, setsOffset, configsOffset, entryRight, controlOf, batteryOf, setOf, setsOf, recordOf, contentsRight, stationFile, controlNumbers, setNumbers, setsBytes, contentsBytes, batteryBytes, fileOf}
 use Rattle.rules.proofs.Tests.{both, and-true, all-at, fact-within}

@@ -37,18 +37,18 @@ abbrev pub ruled : Station → Run → Inputs → Answer Step
 ruled st r x = second st r x 256
 
 -- what seconds come to: the record after those worked, their rows, and why they are no more
-pub record Came : Type 0 where
+pub record WorkedSeconds : Type 0 where
   pub run : Run
   pub rows : List Row
   pub ended : Ended
 
 -- by the rules' answer to the first: the others after it, or none
-abbrev pub cameOn : Run → Answer Step → (Step → Came) → Came
+abbrev pub cameOn : Run → Answer Step → (Step → WorkedSeconds) → WorkedSeconds
 cameOn r (accepted s) later = record { run = later s .run; rows = s .row ∷ later s .rows; ended = later s .ended }
 cameOn r (refused number place) later = record { run = r; rows = []; ended = BeforeRefused }
 
 -- all of them, or those before the first that has no room for its row or that the rules refuse
-unfoldable pub cameTo : Station → Run → List Inputs → ℕ → Came
+unfoldable pub cameTo : Station → Run → List Inputs → ℕ → WorkedSeconds
 cameTo st r [] room = record { run = r; rows = []; ended = AllWorked }
 cameTo st r (x ∷ xs) zero = record { run = r; rows = []; ended = NoRoom }
 cameTo st r (x ∷ xs) (suc room) = cameOn r (ruled st r x) (λ s. cameTo st (s .run) xs room)
@@ -56,7 +56,7 @@ cameTo st r (x ∷ xs) (suc room) = cameOn r (ruled st r x) (λ s. cameTo st (s 
 -- ---- a call, with rows lent
 
 -- what the call's inputs come to: the lent rows have room for as many as they have whole thirteens
-abbrev pub cameOf : Station → Run → List ℕ → List ℕ → Came
+abbrev pub cameOf : Station → Run → List ℕ → List ℕ → WorkedSeconds
 cameOf st r inputs lent = cameTo st r (inputsEach inputs) (length lent / 13)
 
 -- What a call of many seconds owes, for every input: its answer, the record that it hands back, the rows as they are left.

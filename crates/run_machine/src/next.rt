@@ -1,5 +1,4 @@
 // THE STEP: from what came of the last action to the next.
-ghost use Rattle.run_machine.specs.declared.state.Stage.{Stage};
 ghost use Rattle.run_machine.specs.Steps.{Opens, StepsFrom, Steps};
 use crate::calling::counted;
 use crate::calling::judged;

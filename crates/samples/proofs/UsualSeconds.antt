@@ -15,11 +15,11 @@ use Rattle.samples.specs.declared.stage.Stage.{Stage}
 use Rattle.samples.specs.declared.inputs.Ahead.{Ahead}
 use Rattle.samples.specs.declared.inputs.Begun.{Begun}
 use Rattle.samples.specs.declared.inputs.InputSource.{InputSource}
-use Rattle.samples.specs.declared.usual_seconds.Told.{Told}
+use Rattle.samples.specs.declared.usual_seconds.FillState.{FillState}
 use Rattle.samples.specs.declared.stage.Found.{Found}
 use Rattle.samples.specs.ToCome.{mostPlace, RowsRead, rowFirst}
 use Rattle.samples.specs.Streamed.{yetToCome, UsualLater}
-use Rattle.samples.specs.Held.{readerAt, sourceRows, inputsIn, ReachedRight, HeldOn, placesOf, toldAt, filledAt, Filling, GoesOn}
+use Rattle.samples.specs.Held.{readerAt, sourceRows, inputsIn, ReachedRight, HeldOn, placesOf, fillStateAt, filledAt, Filling, GoesOn}
 use Rattle.samples.proofs.HeldLaws.{latest-of, in-force, before-next, onward-same}
 use Rattle.samples.proofs.FillLaws.{filling-more}
 use Rattle.samples.proofs.UsualNext.{usual-on}
@@ -48,11 +48,11 @@ reached-before b line now x t chunk next h w = record {
 -- ---- the next row comes into force, and the one after it is read
 
 module _ (columns : Columns) (lines : ℕ) (now x : Sample) (next i : ℕ) (chunk : List ℕ) (y : Sample) (after : ℕ) (u : UsualLater columns (x .at) chunk next y after) (line : List ℕ) where
-  abbrev told : Told
-  told = toldAt columns lines now x next i
+  abbrev told : FillState
+  told = fillStateAt columns lines now x next i
 
-  abbrev then : Told
-  then = toldAt columns (min (suc lines) mostPlace) x y after i
+  abbrev then : FillState
+  then = fillStateAt columns (min (suc lines) mostPlace) x y after i
 
   -- the rows after the one that comes into force
   rows-then : (rest : List ℕ) → sourceRows (filledAt told line .source) (drop next chunk ++ rest) ≡ rowFirst (Found.Row x) (sourceRows (filledAt then line .source) (drop after chunk ++ rest))
@@ -89,20 +89,20 @@ module _ (columns : Columns) (lines : ℕ) (now x : Sample) (next i : ℕ) (chun
 
 -- ---- one turn after the other
 
-pub none-told : (t : Told) (second places : ℕ) (chunk loads solars sheddables : List ℕ) → GoesOn t second places chunk loads solars sheddables t loads solars sheddables
+pub none-told : (t : FillState) (second places : ℕ) (chunk loads solars sheddables : List ℕ) → GoesOn t second places chunk loads solars sheddables t loads solars sheddables
 none-told t second places chunk loads solars sheddables =
     record { filling = λ s at loads₀ solars₀ sheddables₀ line e f. f; onward = omega arith; sameLoads = refl; sameSolars = refl; sameSheddables = refl }
 
-module _ (t : Told) (second places : ℕ) (chunk loads₁ solars₁ sheddables₁ : List ℕ) (columns : Columns) (lines : ℕ) (now x : Sample) (next i : ℕ) (loads solars sheddables : List ℕ)
-    (g : GoesOn t second places chunk loads₁ solars₁ sheddables₁ (toldAt columns lines now x next i) loads solars sheddables) where
+module _ (t : FillState) (second places : ℕ) (chunk loads₁ solars₁ sheddables₁ : List ℕ) (columns : Columns) (lines : ℕ) (now x : Sample) (next i : ℕ) (loads solars sheddables : List ℕ)
+    (g : GoesOn t second places chunk loads₁ solars₁ sheddables₁ (fillStateAt columns lines now x next i) loads solars sheddables) where
   pub second-told : second + i < x .at → i < places
-      → GoesOn t second places chunk loads₁ solars₁ sheddables₁ (toldAt columns lines now x next (i + 1)) (set loads i (now .load)) (set solars i (now .solar)) (set sheddables i (now .sheddable))
+      → GoesOn t second places chunk loads₁ solars₁ sheddables₁ (fillStateAt columns lines now x next (i + 1)) (set loads i (now .load)) (set solars i (now .solar)) (set sheddables i (now .sheddable))
   second-told h k = record {
     filling = λ s at loads₀ solars₀ sheddables₀ line e f.
         let b : Begun = record { stage = Stage.LaterRows columns (x .at) lines; len = 0 } in
         let f′ = g .filling s at loads₀ solars₀ sheddables₀ line e f in
         let j : i < placesOf loads₀ solars₀ sheddables₀ = omega arith in
-        filling-more s second chunk at loads₀ solars₀ sheddables₀ (filledAt (toldAt columns lines now x next i) line) loads solars sheddables f′ b line refl
+        filling-more s second chunk at loads₀ solars₀ sheddables₀ (filledAt (fillStateAt columns lines now x next i) line) loads solars sheddables f′ b line refl
         (record { begun = b; now = now; ahead = Ahead.Next x; next = next; told = true }) (reached-before b line now x (second + i) chunk next h (f′ .within)) refl j;
     onward = omega (arith, g .onward);
     sameLoads = length-set loads i (now .load) ∙ g .sameLoads;
@@ -111,7 +111,7 @@ module _ (t : Told) (second places : ℕ) (chunk loads₁ solars₁ sheddables�
   }
 
   pub row-told : x .at ≤ second + i → (y : Sample) (after : ℕ) → UsualLater columns (x .at) chunk next y after
-      → GoesOn t second places chunk loads₁ solars₁ sheddables₁ (toldAt columns (min (suc lines) mostPlace) x y after i) loads solars sheddables
+      → GoesOn t second places chunk loads₁ solars₁ sheddables₁ (fillStateAt columns (min (suc lines) mostPlace) x y after i) loads solars sheddables
   row-told h y after u = record {
     filling = λ s at loads₀ solars₀ sheddables₀ line e f.
         row-then columns lines now x next i chunk y after u line s second at loads₀ solars₀ sheddables₀ loads solars sheddables h (g .filling s at loads₀ solars₀ sheddables₀ line e f);
@@ -122,15 +122,15 @@ module _ (t : Told) (second places : ℕ) (chunk loads₁ solars₁ sheddables�
   }
 
 -- where the tests passed, what was told is as the numbers have it
-told-is : (t : Told) (columns : Columns) (last lines : ℕ) (x : Sample) → t .begun .stage ≡ Stage.LaterRows columns last lines → t .ahead ≡ Ahead.Next x → t .begun .len ≡ 0 → last ≡ x .at
-    → toldAt columns lines (t .now) x (t .next) (t .seconds) ≡ t
+told-is : (t : FillState) (columns : Columns) (last lines : ℕ) (x : Sample) → t .begun .stage ≡ Stage.LaterRows columns last lines → t .ahead ≡ Ahead.Next x → t .begun .len ≡ 0 → last ≡ x .at
+    → fillStateAt columns lines (t .now) x (t .next) (t .seconds) ≡ t
 told-is t columns last lines x stage ahead none same =
     let e : Stage.LaterRows columns (x .at) lines ≡ t .begun .stage = ap (λ (n : ℕ). Stage.LaterRows columns n lines) (sym same) ∙ sym stage in
     λ i. record { begun = record { stage = e i; len = sym none i }; now = t .now; ahead = sym ahead i; next = t .next; seconds = t .seconds }
 
-pub goes-on-from : {second places : ℕ} {chunk loads solars sheddables loads′ solars′ sheddables′ : List ℕ} {r : Told} (t : Told) (columns : Columns) (last lines : ℕ) (x : Sample)
+pub goes-on-from : {second places : ℕ} {chunk loads solars sheddables loads′ solars′ sheddables′ : List ℕ} {r : FillState} (t : FillState) (columns : Columns) (last lines : ℕ) (x : Sample)
     → t .begun .stage ≡ Stage.LaterRows columns last lines → t .ahead ≡ Ahead.Next x → t .begun .len ≡ 0 → last ≡ x .at
-    → GoesOn (toldAt columns lines (t .now) x (t .next) (t .seconds)) second places chunk loads solars sheddables r loads′ solars′ sheddables′
+    → GoesOn (fillStateAt columns lines (t .now) x (t .next) (t .seconds)) second places chunk loads solars sheddables r loads′ solars′ sheddables′
     → GoesOn t second places chunk loads solars sheddables r loads′ solars′ sheddables′
 goes-on-from {second} {places} {chunk} {loads} {solars} {sheddables} {loads′} {solars′} {sheddables′} {r} t columns last lines x stage ahead none same =
-    subst (λ (from : Told). GoesOn from second places chunk loads solars sheddables r loads′ solars′ sheddables′) (told-is t columns last lines x stage ahead none same)
+    subst (λ (from : FillState). GoesOn from second places chunk loads solars sheddables r loads′ solars′ sheddables′) (told-is t columns last lines x stage ahead none same)

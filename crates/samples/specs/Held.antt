@@ -11,7 +11,7 @@ use Rattle.rules.specs.declared.samples.Sample.{Sample}
 use Rattle.rules.specs.declared.run.Inputs.{Inputs}
 use Rattle.rules.specs.Numbers.{if_then_else_}
 use Rattle.rules.specs.Bytes.{LF}
-use Rattle.rules.specs.Answers.{accepted, isAccepted, refusalOf}
+use Rattle.rules.specs.Answers.{isAccepted, refusalOf}
 use Rattle.rules.specs.SampleFile.{holding}
 use Rattle.rules.specs.Run.{inputsOf}
 use Rattle.sheet.specs.declared.headings.Columns.{Columns}
@@ -25,7 +25,7 @@ use Rattle.samples.specs.declared.inputs.Filled.{Filled}
 use Rattle.samples.specs.declared.inputs.InForce.{InForce}
 use Rattle.samples.specs.declared.inputs.Begun.{Begun}
 use Rattle.samples.specs.declared.inputs.Reached.{Reached}
-use Rattle.samples.specs.declared.usual_seconds.Told.{Told}
+use Rattle.samples.specs.declared.usual_seconds.FillState.{FillState}
 use Rattle.samples.specs.ToCome.{RowsRead, rowFirst, allRead}
 use Rattle.samples.specs.Streamed.{yetToCome, isRefused}
 
@@ -191,15 +191,15 @@ pub record FilledRight (s : InputSource) (second : ℕ) (chunk : List ℕ) (at :
 -- ---- one second after the other
 
 -- before the first second
-abbrev pub toldBefore : InputSource → ℕ → Told
-toldBefore s next = record { begun = record { stage = s .reader .stage; len = s .reader .len }; now = s .now; ahead = s .ahead; next = next; seconds = 0 }
+abbrev pub fillBegun : InputSource → ℕ → FillState
+fillBegun s next = record { begun = record { stage = s .reader .stage; len = s .reader .len }; now = s .now; ahead = s .ahead; next = next; seconds = 0 }
 
 -- no byte of a line has begun, and the next row is the last that was read
-abbrev pub toldAt : Columns → ℕ → Sample → Sample → ℕ → ℕ → Told
-toldAt columns lines now x next seconds = record { begun = record { stage = Stage.LaterRows columns (x .at) lines; len = 0 }; now = now; ahead = Ahead.Next x; next = next; seconds = seconds }
+abbrev pub fillStateAt : Columns → ℕ → Sample → Sample → ℕ → ℕ → FillState
+fillStateAt columns lines now x next seconds = record { begun = record { stage = Stage.LaterRows columns (x .at) lines; len = 0 }; now = now; ahead = Ahead.Next x; next = next; seconds = seconds }
 
 -- with the bytes of the line that has begun
-abbrev pub filledAt : Told → List ℕ → Filled
+abbrev pub filledAt : FillState → List ℕ → Filled
 filledAt t line = record { source = record { reader = readerAt (t .begun) line; now = t .now; ahead = t .ahead }; next = t .next; seconds = t .seconds }
 
 -- what is owed of the seconds told so far, whether or not others can be told
@@ -216,7 +216,7 @@ pub record Filling (s : InputSource) (second : ℕ) (chunk : List ℕ) (at : ℕ
   pub keptSheddables : KeptFrom (r .seconds) sheddables₀ sheddables
 
 -- what telling further seconds owes: whatever filling had told those so far, it has told these too
-pub record GoesOn (t : Told) (second places : ℕ) (chunk loads solars sheddables : List ℕ) (r : Told) (loads′ solars′ sheddables′ : List ℕ) : Type 0 where
+pub record GoesOn (t : FillState) (second places : ℕ) (chunk loads solars sheddables : List ℕ) (r : FillState) (loads′ solars′ sheddables′ : List ℕ) : Type 0 where
   pub filling : (s : InputSource) (at : ℕ) (loads₀ solars₀ sheddables₀ line : List ℕ) → places ≡ placesOf loads₀ solars₀ sheddables₀
       → Filling s second chunk at loads₀ solars₀ sheddables₀ (filledAt t line) loads solars sheddables
       → Filling s second chunk at loads₀ solars₀ sheddables₀ (filledAt r line) loads′ solars′ sheddables′

@@ -3,7 +3,6 @@ ghost use mathlib.Core.Path.{_≡_};
 ghost use Prim.Native.Nat.{ℕ, _≤_};
 ghost use mathlib.Core.Bool.{true, false};
 ghost use mathlib.Core.List.{List};
-ghost use lib.ListN.{length};
 ghost use Rattle.rules.specs.SampleFile.{beforeAll};
 ghost use Rattle.samples.specs.ToCome.{fileRows};
 ghost use Rattle.samples.specs.Held.{sourceRows, sourceEnded, sourceRefused, lastComesIn, comesIn, aheadAtEnd, readerAt, filledAt, ReachedRight, FilledRight, EndedRight};
@@ -16,8 +15,8 @@ use crate::reader::next_row;
 use crate::reader::reader;
 use crate::stage::Found;
 use crate::stage::Stage;
-use crate::usual_seconds::Told;
-use crate::usual_seconds::told_before;
+use crate::usual_seconds::FillState;
+use crate::usual_seconds::fill_begun;
 use crate::usual_seconds::usual_seconds;
 use rules::answers::Refusal;
 use rules::samples::Sample;
@@ -223,7 +222,7 @@ fn reader_at(begun: Begun, line: [u8; 512]) -> SampleReader
 }
 
 // The seconds told, with the bytes of the line that has begun.
-fn filled_at(told: Told, line: [u8; 512]) -> Filled
+fn filled_at(told: FillState, line: [u8; 512]) -> Filled
     ensures { λ r. ⌜ r ≡ filledAt told line ⌝ }
 {
     let begun = told.begun;
@@ -253,7 +252,7 @@ fn fill_seconds(
     let places = lesser(loads.len(), lesser(solars.len(), sheddables.len()));
     let reader = source.reader;
     let line = reader.line;
-    let mut told = told_before(source, lesser(at, chunk.len()));
+    let mut told = fill_begun(source, lesser(at, chunk.len()));
     while told.seconds < places {
         let usual = usual_seconds(told, first, places, chunk, loads, solars, sheddables);
         let i = usual.seconds;
@@ -279,7 +278,7 @@ fn fill_seconds(
         solars[i] = now.solar;
         sheddables[i] = now.sheddable;
         let seconds = i + 1;
-        told = Told {
+        told = FillState {
             begun,
             now,
             ahead,

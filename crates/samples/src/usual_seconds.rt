@@ -1,7 +1,7 @@
 // The seconds that usual rows tell, one after the other: the loop carries numbers alone, since enums by value cost more than the rows.
 ghost use mathlib.Core.Path.{_≡_};
 ghost use Prim.Native.Nat.{_≤_};
-ghost use Rattle.samples.specs.Held.{toldBefore, toldAt, placesOf, GoesOn};
+ghost use Rattle.samples.specs.Held.{fillBegun, fillStateAt, placesOf, GoesOn};
 use crate::inputs::Ahead;
 use crate::inputs::Begun;
 use crate::inputs::InputSource;
@@ -14,7 +14,7 @@ use sheet::usual::Usual;
 use words::arithmetic::wide;
 
 // So many seconds were told: the row in force and the rows after it; the chunk is to be read on at `next`.
-pub(crate) struct Told {
+pub(crate) struct FillState {
     pub(crate) begun: Begun,
     pub(crate) now: Sample,
     pub(crate) ahead: Ahead,
@@ -23,14 +23,14 @@ pub(crate) struct Told {
 }
 
 // Before the first second.
-pub(crate) fn told_before(source: InputSource, next: usize) -> Told
-    ensures { λ r. ⌜ r ≡ toldBefore source next ⌝ }
+pub(crate) fn fill_begun(source: InputSource, next: usize) -> FillState
+    ensures { λ r. ⌜ r ≡ fillBegun source next ⌝ }
 {
     let reader = source.reader;
     let stage = reader.stage;
     let now = source.now;
     let ahead = source.ahead;
-    Told {
+    FillState {
         begun: Begun {
             stage,
             len: reader.len,
@@ -43,17 +43,17 @@ pub(crate) fn told_before(source: InputSource, next: usize) -> Told
 }
 
 // The row in force and the next one, the last that was read, after so many lines.
-fn told_at(
+fn fill_state_at(
     columns: Columns,
     lines: u64,
     now: Sample,
     row: Sample,
     next: usize,
     seconds: usize,
-) -> Told
-    ensures { λ r. ⌜ r ≡ toldAt columns lines now row next seconds ⌝ }
+) -> FillState
+    ensures { λ r. ⌜ r ≡ fillStateAt columns lines now row next seconds ⌝ }
 {
-    Told {
+    FillState {
         begun: Begun {
             stage: Stage::LaterRows(columns, row.at, lines),
             len: 0,
@@ -84,9 +84,9 @@ fn fill_usual(
     loads: &mut [u32],
     solars: &mut [u32],
     sheddables: &mut [u32],
-) -> Told
+) -> FillState
     requires { ⌜ (first ≤ 4294967295) × (places ≤ placesOf (now loads) (now solars) (now sheddables)) ⌝ }
-    ensures { λ r. ⌜ GoesOn (toldAt (rows .columns) (rows .lines) (rows .held) (rows .ahead) at from) first places (now (chunk .entry)) (now (loads .entry)) (now (solars .entry)) (now (sheddables .entry)) r (now (loads .exit)) (now (solars .exit)) (now (sheddables .exit)) ⌝ }
+    ensures { λ r. ⌜ GoesOn (fillStateAt (rows .columns) (rows .lines) (rows .held) (rows .ahead) at from) first places (now (chunk .entry)) (now (loads .entry)) (now (solars .entry)) (now (sheddables .entry)) r (now (loads .exit)) (now (solars .exit)) (now (sheddables .exit)) ⌝ }
 {
     let columns = rows.columns;
     let mut line = rows.lines;
@@ -104,26 +104,26 @@ fn fill_usual(
         }
         let usual = usual_later(columns, row.at, chunk, next);
         let Usual::Row(sample, after) = usual else {
-            return told_at(columns, line, now, row, next, i);
+            return fill_state_at(columns, line, now, row, next, i);
         };
         line = next_line(line);
         now = row;
         row = sample;
         next = after;
     }
-    told_at(columns, line, now, row, next, i)
+    fill_state_at(columns, line, now, row, next, i)
 }
 
 // The same after any seconds; there are none where the next row is not known, or a line has begun.
 pub(crate) fn usual_seconds(
-    told: Told,
+    told: FillState,
     first: usize,
     places: usize,
     chunk: &[u8],
     loads: &mut [u32],
     solars: &mut [u32],
     sheddables: &mut [u32],
-) -> Told
+) -> FillState
     requires { ⌜ (first ≤ 4294967295) × (places ≤ placesOf (now loads) (now solars) (now sheddables)) ⌝ }
     ensures { λ r. ⌜ GoesOn told first places (now (chunk .entry)) (now (loads .entry)) (now (solars .entry)) (now (sheddables .entry)) r (now (loads .exit)) (now (solars .exit)) (now (sheddables .exit)) ⌝ }
 {

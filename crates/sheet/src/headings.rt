@@ -4,7 +4,6 @@ ghost use mathlib.Core.List.{[], _∷_};
 ghost use lib.ListN.{drop};
 ghost use Rattle.rules.specs.Answers.{accepted, _>>=_ as _then_};
 ghost use Rattle.rules.specs.Bytes.{same};
-ghost use Rattle.rules.specs.Lines.{Line};
 ghost use Rattle.rules.specs.SampleFile.{sampleSheet, nameOf, headings, headingLine};
 ghost use Rattle.sheet.specs.Headings.{headedOf, columnsOf};
 use crate::cells::cell_at;

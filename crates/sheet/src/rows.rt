@@ -2,7 +2,6 @@
 ghost use mathlib.Core.Path.{_≡_};
 ghost use Prim.Native.Nat.{ℕ, _<_};
 ghost use mathlib.Core.List.{[], _∷_};
-ghost use Rattle.rules.specs.Lines.{Line};
 ghost use Rattle.rules.specs.SampleFile.{valueUnder};
 ghost use Rattle.sheet.specs.Headings.{columnsOf};
 ghost use Rattle.sheet.specs.Rows.{rowOf, rowIn, rowOfCells, rowOfValues, cellRefusal};

@@ -1,10 +1,9 @@
 -- THE THEOREM of the pass: whatever both are handed, `steady::seconds::seconds` gives the record, the count, the end and the rows that
 -- `dispatch::seconds::seconds` gives, which works each second by its eleven steps. Of either no more is known than its own contract
 -- says. So the pass can be switched off, and nobody would see it by an answer. Assumes nothing.
-use Prim.Native.Nat.{ℕ, _*_}
-use mathlib.Core.Path.{_≡_, sym, ap, _∙_, subst}
-use mathlib.Core.List.{List, _++_}
-use lib.ListN.{length, drop}
+use Prim.Native.Nat.{ℕ}
+use mathlib.Core.Path.{_≡_, sym, ap, _∙_}
+use mathlib.Core.List.{List}
 use borrow.Fn.Kinds as kinds
 use contract.Lifetimes.{Lfts}
 use denote.Ref.{now}

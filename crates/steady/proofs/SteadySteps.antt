@@ -17,7 +17,7 @@ use Rattle.rules.specs.Share.{capacity}
 use Rattle.rules.specs.Modes.{stateAt, isOn, ticked, onMask}
 use Rattle.rules.specs.Commands.{countedAll, commandedAll}
 use Rattle.rules.specs.Configuration.{maskCalled}
-use Rattle.rules.specs.Second.{statesNow, onNow, capNow, wattsNow, ranNow, step}
+use Rattle.rules.specs.Second.{statesNow, onNow, capNow, wattsNow, ranNow}
 use Rattle.rules.proofs.Shapes.{Tables}
 use Rattle.laws.specs.Admitted.{Admitted}
 use Rattle.gensets.proofs.FileCapacity.{capacity-most}
@@ -33,10 +33,10 @@ use Rattle.dispatch.specs.InType.{countedAllIn, commandedAllIn}
 use Rattle.dispatch.specs.Parts.{runOf, momentAfter, rowOf}
 use Rattle.dispatch.specs.Sized.{Small}
 use Rattle.dispatch.specs.Steps.{ranIn}
-use Rattle.dispatch.proofs.Ready.{ticked-small, on-right, cap-most, diesel-cap}
-use Rattle.dispatch.proofs.Ruled.{stepOf, stepped-is, watts-ruled, ran-ruled, ran-switches, all-commanded}
+use Rattle.dispatch.proofs.Ready.{ticked-small, on-right, diesel-cap}
+use Rattle.dispatch.proofs.Ruled.{stepped-is, watts-ruled, ran-ruled, ran-switches, all-commanded}
 use Rattle.dispatch.proofs.StepsTaken.{watts-in, stepped-by}
-use Rattle.steady.specs.declared.steady_step.Gone.{Gone}
+use Rattle.steady.specs.declared.steady_step.AfterSecond.{AfterSecond}
 use Rattle.steady.specs.declared.steady_step.Steady.{Steady}
 use Rattle.steady.specs.declared.steady_step.Standing.{Standing}
 use Rattle.steady.specs.NextEvent.{NoEvent}
@@ -148,7 +148,7 @@ module _ (st : Station) (tables : Tables st) (q : Steady) (s : Standing) (kept :
           ∙ all-commanded (st .sets) (ranNow st r w) mask (ran-switches st tables caps rates r sixty x h)
           ∙ ap (λ (l : List SetState). commandedAll (st .sets) l mask) (sym ran-is)
 
-      pub steady-stepped : (g : Gone) → g .moment ≡ momentAfter (s .moment) (c .call) (c .held) (m .store) (m .watts) → g .row ≡ rowOf (s .moment .done) (m .watts) (q .on) (c .call) (m .store)
+      pub steady-stepped : (g : AfterSecond) → g .moment ≡ momentAfter (s .moment) (c .call) (c .held) (m .store) (m .watts) → g .row ≡ rowOf (s .moment .done) (m .watts) (q .on) (c .call) (m .store)
           → SteadyStepped st q s r x g adds burns amounts
       steady-stepped g moment row =
           let mask : ℕ = maskCalled (st .configs) (c .call) in

@@ -23,8 +23,8 @@ use Rattle.dispatch.specs.Parts.{runOf}
 use Rattle.dispatch.specs.Working.{Admits, Works}
 use Rattle.steady.specs.declared.steady_step.Steady.{Steady}
 use Rattle.steady.specs.declared.steady_step.Standing.{Standing}
-use Rattle.steady.specs.declared.steady_step.Gone.{Gone}
-use Rattle.steady.specs.declared.steady_seconds.Went.{Went}
+use Rattle.steady.specs.declared.steady_step.AfterSecond.{AfterSecond}
+use Rattle.steady.specs.declared.steady_seconds.AfterSeconds.{AfterSeconds}
 use Rattle.steady.specs.NextEvent.{NoEvent, unmovedAll}
 use Rattle.steady.specs.Steady.{sinceSteady}
 
@@ -45,7 +45,7 @@ commandedSince st q ran energies fuels called =
     commandedAll (st .sets) (sinceSteady (q .states) (q .on) ran energies fuels) (maskCalled (st .configs) called)
 
 -- what the steps of a steady second owe, with the arrays as they are left: the rules' own, of the record where it stood
-pub record SteadyStepped (st : Station) (q : Steady) (s : Standing) (r : Run) (x : Inputs) (g : Gone) (energies fuels decided : List ℕ) : Type 0 where
+pub record SteadyStepped (st : Station) (q : Steady) (s : Standing) (r : Run) (x : Inputs) (g : AfterSecond) (energies fuels decided : List ℕ) : Type 0 where
   pub after : runOf (g .moment) (commandedSince st q (s .ran + 1) energies fuels (g .moment .called)) decided ≡ step st r x .run
   pub row : g .row ≡ step st r x .row
 
@@ -77,7 +77,7 @@ pub record Workable (st : Station) (states : List SetState) (m : Moment) (caps i
   pub rated : Rated (st .sets) (st .configs) caps
 
 -- what they owe: some are worked, as the rules have them
-pub record GoesOn (st : Station) (states : List SetState) (m : Moment) (inputs decided rows : List ℕ) (w : Went) (decided′ rows′ : List ℕ) : Type 0 where
+pub record GoesOn (st : Station) (states : List SetState) (m : Moment) (inputs decided rows : List ℕ) (w : AfterSeconds) (decided′ rows′ : List ℕ) : Type 0 where
   pub works : Works st (runOf m states decided) (inputsEach inputs) rows (w .seconds) (runOf (w .moment) (w .states) decided′) rows′
   pub some : 0 < w .seconds
 

@@ -1,8 +1,7 @@
 // Steady seconds: no set changes its mode, so that only the counts of the sets On and the timed modes' counts move. The sets' states
 // stand as they were, and what is added to the sets On since stands beside them.
 ghost use mathlib.Core.Path.{_≡_};
-ghost use mathlib.Core.Bool.{true};
-ghost use Prim.Native.Nat.{_≤_, _<_};
+ghost use Prim.Native.Nat.{_<_};
 ghost use Rattle.dispatch.specs.Sized.{Small};
 ghost use Rattle.steady.specs.CurveTable.{Tabled};
 ghost use Rattle.steady.specs.Steady.{ranFor, sinceSteady, energiesAfter, fuelsAfter, Addable, Makeable};

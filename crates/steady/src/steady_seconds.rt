@@ -25,7 +25,7 @@ use rules::run::SetState;
 use rules::station::Station;
 
 // The record after some seconds but for the decided amounts, and how many they are.
-pub(crate) struct Went {
+pub(crate) struct AfterSeconds {
     pub(crate) moment: Moment,
     pub(crate) states: [SetState; 8],
     pub(crate) seconds: usize,
@@ -67,7 +67,7 @@ pub(crate) fn steady_seconds(
     inputs: &[u32],
     decided: &mut [u32],
     rows: &mut [u64],
-) -> Went
+) -> AfterSeconds
     requires { ⌜ Workable st (steady .states) moment (now caps) (now inputs) (now decided) (now rows) × Kept st steady × (unmovedAll (steady .states) (steady .called) ≡ true) × (maskCalled (st .configs) (moment .called) ≡ steady .called) × NoEvent (st .sets) (steady .states) (length (inputsEach (now inputs))) ⌝ }
     ensures { λ r. ⌜ GoesOn st (steady .states) moment (now (inputs .entry)) (now (decided .entry)) (now (rows .entry)) r (now (decided .exit)) (now (rows .exit)) ⌝ }
 {
@@ -93,7 +93,7 @@ pub(crate) fn steady_seconds(
     );
     let after = walked.moment;
     let ran = made(states, steady.on, walked.ran as u32, &energies, &fuels);
-    Went {
+    AfterSeconds {
         moment: after,
         states: command_all(sets, ran, mask_called(configs, after.called)),
         seconds: walked.ran,

@@ -38,7 +38,7 @@ pub(crate) struct Standing {
 }
 
 // What a second comes to beside the arrays.
-pub(crate) struct Gone {
+pub(crate) struct AfterSecond {
     pub(crate) moment: Moment,
     pub(crate) row: Row,
 }
@@ -54,7 +54,7 @@ pub(crate) fn steady_step(
     fuels: &mut [u64],
     sums: &[u64; 8],
     lines: &[u64; 128],
-) -> Gone
+) -> AfterSecond
     requires { ⌜ Kept st steady × NoEvent (st .sets) (steady .states) (standing .ran + 1) × Admitted st (runAt steady standing (now energies) (now fuels) (now decided)) inputs × Rated (st .sets) (st .configs) (now caps) × (length (now decided) ≡ 60) × (length (now energies) ≡ 8) × (length (now fuels) ≡ 8) × Tabled (st .sets) (steady .on) (now sums) (now lines) ⌝ }
     ensures { λ r. ⌜ SteadyStepped st steady standing (runAt steady standing (now (energies .entry)) (now (fuels .entry)) (now (decided .entry))) inputs r (now (energies .exit)) (now (fuels .exit)) (now (decided .exit)) ⌝ }
 {
@@ -71,7 +71,7 @@ pub(crate) fn steady_step(
     count_steady(sets, sums, lines, on, diesel, cap, energies, fuels);
     let chosen = commit_at(st, caps, steady.barred, moment, watts, inputs.sheddable);
     let call = chosen.call;
-    Gone {
+    AfterSecond {
         moment: moment_after(moment, call, chosen.held, met.store, watts),
         row: row_of(moment.done, watts, on, call, met.store),
     }

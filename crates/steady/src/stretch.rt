@@ -1,7 +1,6 @@
 // The seconds from a place on: the steady ones up to the next event, or the one second in which a set changes its mode.
-ghost use mathlib.Core.Path.{_≡_};
 ghost use Rattle.steady.specs.SteadySecond.{Workable, GoesOn};
-use crate::steady_seconds::Went;
+use crate::steady_seconds::AfterSeconds;
 use crate::steady_seconds::kept;
 use crate::steady_seconds::steady_for;
 use crate::steady_seconds::steady_seconds;
@@ -24,7 +23,7 @@ fn one_second(
     inputs: &[u32],
     decided: &mut [u32],
     rows: &mut [u64],
-) -> Went
+) -> AfterSeconds
     requires { ⌜ Workable st states moment (now caps) (now inputs) (now decided) (now rows) ⌝ }
     ensures { λ r. ⌜ GoesOn st states moment (now (inputs .entry)) (now (decided .entry)) (now (rows .entry)) r (now (decided .exit)) (now (rows .exit)) ⌝ }
 {
@@ -34,7 +33,7 @@ fn one_second(
     let left = stepped.states;
     let row = stepped.row;
     put_row_numbers(row, rows);
-    Went {
+    AfterSeconds {
         moment: after,
         states: left,
         seconds: 1,
@@ -49,7 +48,7 @@ pub(crate) fn stretch_from(
     inputs: &[u32],
     decided: &mut [u32],
     rows: &mut [u64],
-) -> Went
+) -> AfterSeconds
     requires { ⌜ Workable st states moment (now caps) (now inputs) (now decided) (now rows) ⌝ }
     ensures { λ r. ⌜ GoesOn st states moment (now (inputs .entry)) (now (decided .entry)) (now (rows .entry)) r (now (decided .exit)) (now (rows .exit)) ⌝ }
 {

@@ -3,152 +3,106 @@ use mathlib.Core.Path.{refl}
 use borrow.Author.Needs.{needs}
 use Rattle.perform.proofs.perform.Statement.{statement}
 use Rattle.perform.proofs.perform.Tie as tie
-use Rattle.perform.proofs.perform.Reads as reads
-use Rattle.perform.proofs.perform.Lts as lts
-use Rattle.os.proofs.arg_count.Reads as arg-count-reads
-use Rattle.perform.proofs.argument.Reads as argument-reads
-use Rattle.perform.proofs.descriptor.Reads as descriptor-reads
-use Rattle.perform.proofs.done.Reads as done-reads
-use Rattle.perform.proofs.open.Reads as open-reads
-use Rattle.perform.proofs.read.Reads as read-reads
-use Rattle.perform.proofs.rewind.Reads as rewind-reads
-use Rattle.perform.proofs.told.Reads as told-reads
-use Rattle.perform.proofs.with_file.Reads as with-file-reads
-use Rattle.perform.proofs.write.Reads as write-reads
 
--- src/lib.rt:176:51
 enum-told : tie.Need-enum-told
 enum-told c = search needs
 
--- src/lib.rt:176:51
 arg-count-requires : tie.Need-arg-count-requires
 arg-count-requires c κs = search needs
 
--- src/lib.rt:176:26
 told-requires : tie.Need-told-requires
 told-requires c κs = search needs
 
--- src/lib.rt:177:26
 enum-known-action : tie.Need-enum-known-action
 enum-known-action c = search needs
 
--- src/lib.rt:177:48
 argument-requires : tie.Need-argument-requires
 argument-requires c κs = search needs
 
--- src/lib.rt:177:36
 told-requires-2 : tie.Need-told-requires-2
 told-requires-2 c κs = search needs
 
--- src/lib.rt:178:22
 enum-known-action-2 : tie.Need-enum-known-action-2
 enum-known-action-2 c = search needs
 
--- src/lib.rt:179:17
 open-requires : tie.Need-open-requires
 open-requires c κs = search needs
 
--- src/lib.rt:181:17
 with-file-requires : tie.Need-with-file-requires
 with-file-requires c κs = search needs
 
--- src/lib.rt:182:17
 done-requires : tie.Need-done-requires
 done-requires c κs = search needs
 
--- src/lib.rt:180:13
 told-requires-3 : tie.Need-told-requires-3
 told-requires-3 c κs = search needs
 
--- src/lib.rt:185:22
 enum-known-action-3 : tie.Need-enum-known-action-3
 enum-known-action-3 c = search needs
 
--- src/lib.rt:186:30
 descriptor-requires : tie.Need-descriptor-requires
 descriptor-requires c κs = search needs
 
--- src/lib.rt:186:25
 read-requires : tie.Need-read-requires
 read-requires c κs = search needs
 
--- src/lib.rt:186:13
 told-requires-4 : tie.Need-told-requires-4
 told-requires-4 c κs = search needs
 
--- src/lib.rt:188:24
 enum-known-action-4 : tie.Need-enum-known-action-4
 enum-known-action-4 c = search needs
 
--- src/lib.rt:188:53
 descriptor-requires-2 : tie.Need-descriptor-requires-2
 descriptor-requires-2 c κs = search needs
 
--- src/lib.rt:188:46
 rewind-requires : tie.Need-rewind-requires
 rewind-requires c κs = search needs
 
--- src/lib.rt:188:34
 told-requires-5 : tie.Need-told-requires-5
 told-requires-5 c κs = search needs
 
--- src/lib.rt:189:23
 enum-known-action-5 : tie.Need-enum-known-action-5
 enum-known-action-5 c = search needs
 
--- src/lib.rt:189:44
 write-requires : tie.Need-write-requires
 write-requires c κs = search needs
 
--- src/lib.rt:189:32
 told-requires-6 : tie.Need-told-requires-6
 told-requires-6 c κs = search needs
 
--- src/lib.rt:190:40
 enum-told-2 : tie.Need-enum-told-2
 enum-told-2 c = search needs
 
--- src/lib.rt:190:28
 told-requires-7 : tie.Need-told-requires-7
 told-requires-7 c κs = search needs
 
--- src/lib.rt:166:1
 returns : tie.Need-returns
 returns c = rw (c .before .before .enum-told .given .1, c .told .ensures) (tt, refl)
 
--- src/lib.rt:166:1
 same-length : tie.Need-same-length
 same-length c = search needs
 
--- src/lib.rt:166:1
 returns-2 : tie.Need-returns-2
 returns-2 c = rw (c .before .before .before .before .before .before .action .given .1, c .told2 .ensures) (c .before .before .before .argument .ensures)
 
--- src/lib.rt:166:1
 same-length-2 : tie.Need-same-length-2
 same-length-2 c = search needs
 
--- src/lib.rt:166:1
 returns-3 : tie.Need-returns-3
 returns-3 c = rw (c .before .before .before .before .before .before .before .before .before .before .before .action2 .given .1, c .told3 .ensures) (c .before .done .ensures, refl)
 
--- src/lib.rt:166:1
 same-length-3 : tie.Need-same-length-3
 same-length-3 c = search needs
 
--- src/lib.rt:166:1
 returns-4 : tie.Need-returns-4
 returns-4 c = rw (c .before .before .before .before .before .before .before .action3 .given .1, c .told4 .ensures) (c .before .before .before .read .ensures)
 
--- src/lib.rt:166:1
 returns-5 : tie.Need-returns-5
 returns-5 c = rw (c .before .before .before .before .action4 .given .1, c .told5 .ensures) (c .before .rewind .ensures, refl)
 
--- src/lib.rt:166:1
 returns-6 : tie.Need-returns-6
 returns-6 c = rw (c .before .before .before .action5 .given .1, c .told6 .ensures) (c .before .write .ensures, refl)
 
--- src/lib.rt:166:1
 returns-7 : tie.Need-returns-7
 returns-7 c = rw (c .before .enum-told2 .given .1, c .told7 .ensures) (tt, refl)
 

@@ -2,27 +2,19 @@
 use borrow.Author.Needs.{needs}
 use Rattle.sizing.proofs.answered.Statement.{statement}
 use Rattle.sizing.proofs.answered.Tie as tie
-use Rattle.sizing.proofs.answered.Reads as reads
-use Rattle.sizing.proofs.answered.Lts as lts
-use Rattle.sizing.proofs.refused.Reads as refused-reads
 
--- src/lib.rt:36:23
 enum-known-amount : tie.Need-enum-known-amount
 enum-known-amount c = search needs
 
--- src/lib.rt:41:25
 enum-known-amount-2 : tie.Need-enum-known-amount-2
 enum-known-amount-2 c = search needs
 
--- src/lib.rt:41:37
 refused-requires : tie.Need-refused-requires
 refused-requires c κs = search needs
 
--- src/lib.rt:32:1
 returns : tie.Need-returns
 returns c = rw (c .before .amount .given .1)
 
--- src/lib.rt:32:1
 returns-2 : tie.Need-returns-2
 returns-2 c = rw (c .before .before .amount2 .given .1) (c .refused .ensures)
 

@@ -2,15 +2,10 @@
 use borrow.Author.Needs.{needs}
 use Rattle.sizing.proofs.refused.Statement.{statement}
 use Rattle.sizing.proofs.refused.Tie as tie
-use Rattle.sizing.proofs.refused.Reads as reads
-use Rattle.sizing.proofs.refused.Lts as lts
-use Rattle.words.proofs.refusals.number_and_place.Reads as number-and-place-reads
 
--- src/lib.rt:28:9
 number-and-place-requires : tie.Need-number-and-place-requires
 number-and-place-requires c κs = search needs
 
--- src/lib.rt:25:1
 returns : tie.Need-returns
 returns c = λ i. record { number = c .number-and-place .ensures .0 i; place = c .number-and-place .ensures .1 i; value = 0 }
 

@@ -4,39 +4,27 @@ use borrow.Author.Needs.{needs}
 use Rattle.sizing.proofs.SheetAsked.{sheet-accepted, sheet-refused}
 use Rattle.sizing.proofs.sizing_check_samples.Statement.{statement}
 use Rattle.sizing.proofs.sizing_check_samples.Tie as tie
-use Rattle.sizing.proofs.sizing_check_samples.Reads as reads
-use Rattle.sizing.proofs.sizing_check_samples.Lts as lts
-use Rattle.samples.proofs.check.check_samples.Reads as check-samples-reads
-use Rattle.sizing.proofs.judged.Reads as judged-reads
-use Rattle.sizing.proofs.refused.Reads as refused-reads
 
--- src/lib.rt:75:11
 check-samples-requires : tie.Need-check-samples-requires
 check-samples-requires c κs = search needs
 
--- src/lib.rt:76:40
 enum-told : tie.Need-enum-told
 enum-told c = search needs
 
--- src/lib.rt:76:33
 judged-requires : tie.Need-judged-requires
 judged-requires c κs = search needs
 
--- src/lib.rt:77:26
 enum-known-refusal : tie.Need-enum-known-refusal
 enum-known-refusal c = search needs
 
--- src/lib.rt:77:38
 refused-requires : tie.Need-refused-requires
 refused-requires c κs = search needs
 
--- src/lib.rt:71:1
 returns : tie.Need-returns
 returns c =
     let file = c .before .before .before in
     c .judged .ensures ∙ sheet-accepted _ _ (file .check-samples .ensures) _ (c .before .enum-told .given .1)
 
--- src/lib.rt:71:1
 returns-2 : tie.Need-returns-2
 returns-2 c =
     let refusal = c .before .before in

@@ -4,20 +4,13 @@ use Rattle.sizing.specs.Screen.{screenAnswer}
 use borrow.Author.Needs.{needs}
 use Rattle.sizing.proofs.sizing_fuel_rate.Statement.{statement}
 use Rattle.sizing.proofs.sizing_fuel_rate.Tie as tie
-use Rattle.sizing.proofs.sizing_fuel_rate.Reads as reads
-use Rattle.sizing.proofs.sizing_fuel_rate.Lts as lts
-use Rattle.sizing.proofs.answered.Reads as answered-reads
-use Rattle.sizing.proofs.fuel.rate_asked.Reads as rate-asked-reads
 
--- src/lib.rt:77:14
 rate-asked-requires : tie.Need-rate-asked-requires
 rate-asked-requires c κs = search needs
 
--- src/lib.rt:77:5
 answered-requires : tie.Need-answered-requires
 answered-requires c κs = search needs
 
--- src/lib.rt:73:1
 returns : tie.Need-returns
 returns c = c .answered .ensures ∙ ap screenAnswer (c .before .rate-asked .ensures)
 

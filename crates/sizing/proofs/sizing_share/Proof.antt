@@ -4,20 +4,13 @@ use Rattle.sizing.specs.Screen.{screenAnswer}
 use borrow.Author.Needs.{needs}
 use Rattle.sizing.proofs.sizing_share.Statement.{statement}
 use Rattle.sizing.proofs.sizing_share.Tie as tie
-use Rattle.sizing.proofs.sizing_share.Reads as reads
-use Rattle.sizing.proofs.sizing_share.Lts as lts
-use Rattle.sizing.proofs.answered.Reads as answered-reads
-use Rattle.sizing.proofs.share.share_asked.Reads as share-asked-reads
 
--- src/lib.rt:69:14
 share-asked-requires : tie.Need-share-asked-requires
 share-asked-requires c κs = search needs
 
--- src/lib.rt:69:5
 answered-requires : tie.Need-answered-requires
 answered-requires c κs = search needs
 
--- src/lib.rt:65:1
 returns : tie.Need-returns
 returns c = c .answered .ensures ∙ ap screenAnswer (c .before .share-asked .ensures)
 

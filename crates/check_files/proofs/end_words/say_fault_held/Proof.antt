@@ -4,27 +4,19 @@ use lib.ListN.{length-take}
 use borrow.Author.Needs.{needs}
 use Rattle.check_files.proofs.end_words.say_fault_held.Statement.{statement}
 use Rattle.check_files.proofs.end_words.say_fault_held.Tie as tie
-use Rattle.check_files.proofs.end_words.say_fault_held.Reads as reads
-use Rattle.check_files.proofs.end_words.say_fault_held.Lts as lts
-use Rattle.explain.proofs.station_faults.say_station_fault.Reads as say-station-fault-reads
 
--- src/end_words.rt:66:9
 returns : tie.Need-returns
 returns c = search needs
 
--- src/end_words.rt:68:37
 array-share-prefix-bytes : tie.Need-array-share-prefix-bytes
 array-share-prefix-bytes c = search needs
 
--- src/end_words.rt:68:37
 slice-aggregate-say-station-fault : tie.Need-slice-aggregate-say-station-fault
 slice-aggregate-say-station-fault c = simp length-take (omega arith)
 
--- src/end_words.rt:68:5
 say-station-fault-requires : tie.Need-say-station-fault-requires
 say-station-fault-requires c κs = search needs
 
--- src/end_words.rt:64:1
 returns-2 : tie.Need-returns-2
 returns-2 c = search needs
 

@@ -4,27 +4,19 @@ use lib.ListN.{length-take}
 use borrow.Author.Needs.{needs}
 use Rattle.check_files.proofs.end_words.say_station_held.Statement.{statement}
 use Rattle.check_files.proofs.end_words.say_station_held.Tie as tie
-use Rattle.check_files.proofs.end_words.say_station_held.Reads as reads
-use Rattle.check_files.proofs.end_words.say_station_held.Lts as lts
-use Rattle.explain.proofs.station_words.say_station_file.Reads as say-station-file-reads
 
--- src/end_words.rt:48:9
 returns : tie.Need-returns
 returns c = search needs
 
--- src/end_words.rt:50:22
 array-share-prefix-bytes : tie.Need-array-share-prefix-bytes
 array-share-prefix-bytes c = search needs
 
--- src/end_words.rt:50:22
 slice-aggregate-say-station-file : tie.Need-slice-aggregate-say-station-file
 slice-aggregate-say-station-file c = simp length-take (omega arith)
 
--- src/end_words.rt:50:5
 say-station-file-requires : tie.Need-say-station-file-requires
 say-station-file-requires c κs = search needs
 
--- src/end_words.rt:46:1
 returns-2 : tie.Need-returns-2
 returns-2 c = search needs
 

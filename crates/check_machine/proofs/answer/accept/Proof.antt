@@ -4,40 +4,28 @@ use denote.Ref.{now}
 use borrow.Author.Needs.{needs}
 use Rattle.check_machine.proofs.answer.accept.Statement.{statement}
 use Rattle.check_machine.proofs.answer.accept.Tie as tie
-use Rattle.check_machine.proofs.answer.accept.Reads as reads
-use Rattle.check_machine.proofs.answer.accept.Lts as lts
-use Rattle.check_machine.proofs.state.stopped.Reads as stopped-reads
-use Rattle.rows.proofs.run_lines.put_accepted.Reads as put-accepted-reads
 
--- src/answer.rt:23:9
 put-accepted-requires : tie.Need-put-accepted-requires
 put-accepted-requires c κs = search needs
 
--- src/answer.rt:24:22
 enum-known-put : tie.Need-enum-known-put
 enum-known-put c = search needs
 
--- src/answer.rt:25:30
 enum-told : tie.Need-enum-told
 enum-told c = search needs
 
--- src/answer.rt:25:9
 stopped-requires : tie.Need-stopped-requires
 stopped-requires c κs = search needs
 
--- src/answer.rt:25:9
 same-length : tie.Need-same-length
 same-length c = search needs
 
--- src/answer.rt:25:9
 returns : tie.Need-returns
 returns c = accept-stops (c .before .before .before .before .before .before .before .before .args .held) (now (c .before .before .before .before .before .before .before .before .args .out)) _ _ _ (c .before .enum-told .given .1) _ _ (c .stopped .ensures) (c .before .before .before .before .before .put-accepted .ensures)
 
--- src/answer.rt:20:1
 same-length-2 : tie.Need-same-length-2
 same-length-2 c = search needs
 
--- src/answer.rt:20:1
 returns-2 : tie.Need-returns-2
 returns-2 c = accept-puts (c .before .before .before .before .before .before .before .before .args .held) (now (c .before .before .before .before .before .before .before .before .args .out)) _ (c .before .before .before .before .before .put-accepted .result) _ (c .before .put .given .1) (c .before .before .before .before .before .put-accepted .ensures)
 

@@ -4,40 +4,28 @@ use denote.Ref.{now}
 use borrow.Author.Needs.{needs}
 use Rattle.check_machine.proofs.answer.refuse.Statement.{statement}
 use Rattle.check_machine.proofs.answer.refuse.Tie as tie
-use Rattle.check_machine.proofs.answer.refuse.Reads as reads
-use Rattle.check_machine.proofs.answer.refuse.Lts as lts
-use Rattle.check_machine.proofs.state.stopped.Reads as stopped-reads
-use Rattle.rows.proofs.run_lines.put_refused.Reads as put-refused-reads
 
--- src/answer.rt:36:9
 put-refused-requires : tie.Need-put-refused-requires
 put-refused-requires c κs = search needs
 
--- src/answer.rt:37:22
 enum-known-put : tie.Need-enum-known-put
 enum-known-put c = search needs
 
--- src/answer.rt:38:30
 enum-told : tie.Need-enum-told
 enum-told c = search needs
 
--- src/answer.rt:38:9
 stopped-requires : tie.Need-stopped-requires
 stopped-requires c κs = search needs
 
--- src/answer.rt:38:9
 same-length : tie.Need-same-length
 same-length c = search needs
 
--- src/answer.rt:38:9
 returns : tie.Need-returns
 returns c = refuse-stops (c .before .before .before .before .before .before .before .before .args .held) (now (c .before .before .before .before .before .before .before .before .args .out)) _ _ _ (c .before .enum-told .given .1) _ _ (c .stopped .ensures) (c .before .before .before .before .before .before .before .before .args .refusal) (c .before .before .before .before .before .put-refused .ensures)
 
--- src/answer.rt:33:1
 same-length-2 : tie.Need-same-length-2
 same-length-2 c = search needs
 
--- src/answer.rt:33:1
 returns-2 : tie.Need-returns-2
 returns-2 c = refuse-puts (c .before .before .before .before .before .before .before .before .args .held) (now (c .before .before .before .before .before .before .before .before .args .out)) _ (c .before .before .before .before .before .put-refused .result) _ (c .before .put .given .1) (c .before .before .before .before .before .before .before .before .args .refusal) (c .before .before .before .before .before .put-refused .ensures)
 

@@ -4,62 +4,43 @@ use denote.Ref.{now}
 use borrow.Author.Needs.{needs}
 use Rattle.check_machine.proofs.answer.refuse_line.Statement.{statement}
 use Rattle.check_machine.proofs.answer.refuse_line.Tie as tie
-use Rattle.check_machine.proofs.answer.refuse_line.Reads as reads
-use Rattle.check_machine.proofs.answer.refuse_line.Lts as lts
-use Rattle.check_machine.proofs.answer.refuse.Reads as refuse-reads
-use Rattle.check_machine.proofs.line_search.no_line.Reads as no-line-reads
-use Rattle.check_machine.proofs.state.stopped.Reads as stopped-reads
-use Rattle.rows.proofs.run_lines.put_refused.Reads as put-refused-reads
 
--- src/answer.rt:51:9
 refuse-requires : tie.Need-refuse-requires
 refuse-requires c κs = search needs
 
--- src/answer.rt:51:9
 same-length : tie.Need-same-length
 same-length c = search needs
 
--- src/answer.rt:51:9
 returns : tie.Need-returns
 returns c = without-line (c .before .before .before .before .before .before .args .refusal) _ _ _ (c .before .before .refuse .ensures)
 
--- src/answer.rt:53:9
 put-refused-requires : tie.Need-put-refused-requires
 put-refused-requires c κs = search needs
 
--- src/answer.rt:54:22
 enum-known-put : tie.Need-enum-known-put
 enum-known-put c = search needs
 
--- src/answer.rt:55:30
 enum-told : tie.Need-enum-told
 enum-told c = search needs
 
--- src/answer.rt:55:9
 stopped-requires : tie.Need-stopped-requires
 stopped-requires c κs = search needs
 
--- src/answer.rt:55:9
 same-length-2 : tie.Need-same-length-2
 same-length-2 c = search needs
 
--- src/answer.rt:55:9
 returns-2 : tie.Need-returns-2
 returns-2 c = refuse-line-stops (c .before .before .before .before .before .before .before .before .before .args .held) (now (c .before .before .before .before .before .before .before .before .before .args .out)) _ _ _ (c .before .enum-told .given .1) _ _ (c .stopped .ensures) (c .before .before .before .before .before .before .before .before .before .args .refusal) (c .before .before .before .before .before .put-refused .ensures)
 
--- src/answer.rt:57:26
 sub-no-line : tie.Need-sub-no-line
 sub-no-line c = search needs
 
--- src/answer.rt:57:9
 no-line-requires : tie.Need-no-line-requires
 no-line-requires c κs = search needs
 
--- src/answer.rt:47:1
 same-length-3 : tie.Need-same-length-3
 same-length-3 c = search needs
 
--- src/answer.rt:47:1
 returns-3 : tie.Need-returns-3
 returns-3 c = refuse-line-puts _ (now (c .before .before .before .before .before .before .before .before .before .before .args .out)) _ (c .before .before .before .before .before .before .put-refused .result) _ (c .before .before .put .given .1) (c .before .before .before .before .before .before .before .before .before .before .args .refusal) (c .before .before .before .before .before .before .put-refused .ensures)
 

@@ -3,23 +3,16 @@ use Rattle.check_machine.proofs.StepLaws.{line-found, line-awaited}
 use borrow.Author.Needs.{needs}
 use Rattle.check_machine.proofs.lines.lines_in.Statement.{statement}
 use Rattle.check_machine.proofs.lines.lines_in.Tie as tie
-use Rattle.check_machine.proofs.lines.lines_in.Reads as reads
-use Rattle.check_machine.proofs.lines.lines_in.Lts as lts
-use Rattle.check_machine.proofs.lines.sought_on.Reads as sought-on-reads
 
--- src/lines.rt:30:9
 sought-on-requires : tie.Need-sought-on-requires
 sought-on-requires c κs = search needs
 
--- src/lines.rt:31:9
 sought-on-requires-2 : tie.Need-sought-on-requires-2
 sought-on-requires-2 c κs = search needs
 
--- src/lines.rt:36:9
 returns : tie.Need-returns
 returns c = line-found (c .before .before .before .before .args .refusal) _
 
--- src/lines.rt:27:1
 returns-2 : tie.Need-returns-2
 returns-2 c = line-awaited (c .before .before .before .before .args .refusal) _
 

@@ -10,115 +10,82 @@ use native.Mathlib.Omega.{arith}
 use borrow.Author.Needs.{needs}
 use Rattle.check_machine.proofs.next.next.Statement.{statement}
 use Rattle.check_machine.proofs.next.next.Tie as tie
-use Rattle.check_machine.proofs.next.next.Reads as reads
-use Rattle.check_machine.proofs.next.next.Lts as lts
-use Rattle.check_machine.proofs.lines.lines_read.Reads as lines-read-reads
-use Rattle.check_machine.proofs.opening.counted.Reads as counted-reads
-use Rattle.check_machine.proofs.opening.judged.Reads as judged-reads
-use Rattle.check_machine.proofs.state.moved.Reads as moved-reads
-use Rattle.check_machine.proofs.state.stopped.Reads as stopped-reads
 
--- src/next.rt:39:9
 stopped-requires : tie.Need-stopped-requires
 stopped-requires c κs = search needs
 
--- src/next.rt:39:9
 returns : tie.Need-returns
 returns c = small-steps (c .before .before .before .before .before .args .machine) (c .before .before .before .before .before .args .event) (now (c .before .before .before .before .before .args .buf)) (now (c .before .before .before .before .before .args .out)) _ _ (λ some roomy. omega (arith, some, roomy)) (c .stopped .ensures)
 
--- src/next.rt:42:9
 stopped-requires-2 : tie.Need-stopped-requires-2
 stopped-requires-2 c κs = search needs
 
--- src/next.rt:42:9
 returns-2 : tie.Need-returns-2
 returns-2 c = small-steps (c .before .before .before .before .before .before .args .machine) (c .before .before .before .before .before .before .args .event) (now (c .before .before .before .before .before .before .args .buf)) (now (c .before .before .before .before .before .before .args .out)) _ _ (λ some roomy. omega (arith, some, roomy)) (c .stopped2 .ensures)
 
--- src/next.rt:46:28
 enum-told : tie.Need-enum-told
 enum-told c = search needs
 
--- src/next.rt:46:28
 counted-requires : tie.Need-counted-requires
 counted-requires c κs = search needs
 
--- src/next.rt:47:52
 enum-told-2 : tie.Need-enum-told-2
 enum-told-2 c = search needs
 
--- src/next.rt:47:27
 judged-requires : tie.Need-judged-requires
 judged-requires c κs = search needs
 
--- src/next.rt:48:26
 enum-known-stage : tie.Need-enum-known-stage
 enum-known-stage c = search needs
 
--- src/next.rt:48:35
 moved-requires : tie.Need-moved-requires
 moved-requires c κs = search needs
 
--- src/next.rt:49:30
 enum-known-stage-2 : tie.Need-enum-known-stage-2
 enum-known-stage-2 c = search needs
 
--- src/next.rt:49:42
 moved-requires-2 : tie.Need-moved-requires-2
 moved-requires-2 c κs = search needs
 
--- src/next.rt:50:24
 enum-known-stage-3 : tie.Need-enum-known-stage-3
 enum-known-stage-3 c = search needs
 
--- src/next.rt:50:36
 moved-requires-3 : tie.Need-moved-requires-3
 moved-requires-3 c κs = search needs
 
--- src/next.rt:56:22
 enum-known-stage-4 : tie.Need-enum-known-stage-4
 enum-known-stage-4 c = search needs
 
--- src/next.rt:56:34
 lines-read-requires : tie.Need-lines-read-requires
 lines-read-requires c κs = search needs
 
--- src/next.rt:57:41
 enum-told-3 : tie.Need-enum-told-3
 enum-told-3 c = search needs
 
--- src/next.rt:57:27
 stopped-requires-3 : tie.Need-stopped-requires-3
 stopped-requires-3 c κs = search needs
 
--- src/next.rt:33:1
 returns-3 : tie.Need-returns-3
 returns-3 c = large-steps (c .before .before .before .before .before .before .before .before .args .machine) (c .before .before .before .before .before .before .before .before .args .event) (now (c .before .before .before .before .before .before .before .before .args .buf)) (now (c .before .before .before .before .before .before .before .before .args .out)) _ _ refl (at-stage (c .before .before .before .before .before .before .before .before .args .machine .stage) (Stage.Counting) (c .before .before .before .before .before .before .before .before .args .machine .held) (c .before .before .before .before .before .before .before .before .args .event) (now (c .before .before .before .before .before .before .before .before .args .buf)) (now (c .before .before .before .before .before .before .before .before .args .out)) _ _ (c .before .enum-told .given .1) (c .counted .ensures (now (c .before .before .before .before .before .before .before .before .args .buf)) (now (c .before .before .before .before .before .before .before .before .args .out))))
 
--- src/next.rt:33:1
 same-length : tie.Need-same-length
 same-length c = search needs
 
--- src/next.rt:33:1
 returns-4 : tie.Need-returns-4
 returns-4 c = large-steps (c .before .before .before .before .before .before .before .before .before .before .before .args .machine) (c .before .before .before .before .before .before .before .before .before .before .before .args .event) (now (c .before .before .before .before .before .before .before .before .before .before .before .args .buf)) (now (c .before .before .before .before .before .before .before .before .before .before .before .args .out)) _ _ (same-length c) (at-stage (c .before .before .before .before .before .before .before .before .before .before .before .args .machine .stage) (Stage.Judging) (c .before .before .before .before .before .before .before .before .before .before .before .args .machine .held) (c .before .before .before .before .before .before .before .before .before .before .before .args .event) (now (c .before .before .before .before .before .before .before .before .before .before .before .args .buf)) (now (c .before .before .before .before .before .before .before .before .before .before .before .args .out)) _ _ (c .before .before .before .before .enum-told2 .given .1) (c .before .before .judged .ensures))
 
--- src/next.rt:33:1
 returns-5 : tie.Need-returns-5
 returns-5 c = large-steps (c .before .before .before .before .before .before .before .before .before .args .machine) (c .before .before .before .before .before .before .before .before .before .args .event) (now (c .before .before .before .before .before .before .before .before .before .args .buf)) (now (c .before .before .before .before .before .before .before .before .before .args .out)) _ _ refl (at-stage (c .before .before .before .before .before .before .before .before .before .args .machine .stage) (_) (c .before .before .before .before .before .before .before .before .before .args .machine .held) (c .before .before .before .before .before .before .before .before .before .args .event) (now (c .before .before .before .before .before .before .before .before .before .args .buf)) (now (c .before .before .before .before .before .before .before .before .before .args .out)) _ _ (c .before .before .stage .given .1) (subst (λ (m : Machine). StepsFrom (Stage.Answer (c .before .before .stage .given .0 .0) (c .before .before .stage .given .0 .1 .0)) (c .before .before .before .before .before .before .before .before .before .args .machine .held) (c .before .before .before .before .before .before .before .before .before .args .event) (now (c .before .before .before .before .before .before .before .before .before .args .buf)) (now (c .before .before .before .before .before .before .before .before .before .args .out)) m (now (c .before .before .before .before .before .before .before .before .before .args .out))) (sym (c .moved .ensures)) (answer-steps (c .before .before .stage .given .0 .0) (c .before .before .stage .given .0 .1 .0) (c .before .before .before .before .before .before .before .before .before .args .machine .held) (c .before .before .before .before .before .before .before .before .before .args .event) (now (c .before .before .before .before .before .before .before .before .before .args .buf)) (now (c .before .before .before .before .before .before .before .before .before .args .out)))))
 
--- src/next.rt:33:1
 returns-6 : tie.Need-returns-6
 returns-6 c = large-steps (c .before .before .before .before .before .before .before .before .before .args .machine) (c .before .before .before .before .before .before .before .before .before .args .event) (now (c .before .before .before .before .before .before .before .before .before .args .buf)) (now (c .before .before .before .before .before .before .before .before .before .args .out)) _ _ refl (at-stage (c .before .before .before .before .before .before .before .before .before .args .machine .stage) (_) (c .before .before .before .before .before .before .before .before .before .args .machine .held) (c .before .before .before .before .before .before .before .before .before .args .event) (now (c .before .before .before .before .before .before .before .before .before .args .buf)) (now (c .before .before .before .before .before .before .before .before .before .args .out)) _ _ (c .before .before .stage2 .given .1) (subst (λ (m : Machine). StepsFrom (Stage.LineAnswer (c .before .before .stage2 .given .0 .0) (c .before .before .stage2 .given .0 .1 .0)) (c .before .before .before .before .before .before .before .before .before .args .machine .held) (c .before .before .before .before .before .before .before .before .before .args .event) (now (c .before .before .before .before .before .before .before .before .before .args .buf)) (now (c .before .before .before .before .before .before .before .before .before .args .out)) m (now (c .before .before .before .before .before .before .before .before .before .args .out))) (sym (c .moved2 .ensures)) (line-answer-steps (c .before .before .stage2 .given .0 .0) (c .before .before .stage2 .given .0 .1 .0) (c .before .before .before .before .before .before .before .before .before .args .machine .held) (c .before .before .before .before .before .before .before .before .before .args .event) (now (c .before .before .before .before .before .before .before .before .before .args .buf)) (now (c .before .before .before .before .before .before .before .before .before .args .out)))))
 
--- src/next.rt:33:1
 returns-7 : tie.Need-returns-7
 returns-7 c = large-steps (c .before .before .before .before .before .before .before .before .before .args .machine) (c .before .before .before .before .before .before .before .before .before .args .event) (now (c .before .before .before .before .before .before .before .before .before .args .buf)) (now (c .before .before .before .before .before .before .before .before .before .args .out)) _ _ refl (at-stage (c .before .before .before .before .before .before .before .before .before .args .machine .stage) (_) (c .before .before .before .before .before .before .before .before .before .args .machine .held) (c .before .before .before .before .before .before .before .before .before .args .event) (now (c .before .before .before .before .before .before .before .before .before .args .buf)) (now (c .before .before .before .before .before .before .before .before .before .args .out)) _ _ (c .before .before .stage3 .given .1) (subst (λ (m : Machine). StepsFrom (Stage.ToLines (c .before .before .stage3 .given .0 .0)) (c .before .before .before .before .before .before .before .before .before .args .machine .held) (c .before .before .before .before .before .before .before .before .before .args .event) (now (c .before .before .before .before .before .before .before .before .before .args .buf)) (now (c .before .before .before .before .before .before .before .before .before .args .out)) m (now (c .before .before .before .before .before .before .before .before .before .args .out))) (sym (c .moved3 .ensures)) (to-lines-steps (c .before .before .stage3 .given .0 .0) (c .before .before .before .before .before .before .before .before .before .args .machine .held) (c .before .before .before .before .before .before .before .before .before .args .event) (now (c .before .before .before .before .before .before .before .before .before .args .buf)) (now (c .before .before .before .before .before .before .before .before .before .args .out)))))
 
--- src/next.rt:33:1
 returns-8 : tie.Need-returns-8
 returns-8 c = large-steps (c .before .before .before .before .before .before .before .before .before .args .machine) (c .before .before .before .before .before .before .before .before .before .args .event) (now (c .before .before .before .before .before .before .before .before .before .args .buf)) (now (c .before .before .before .before .before .before .before .before .before .args .out)) _ _ refl (at-stage (c .before .before .before .before .before .before .before .before .before .args .machine .stage) (_) (c .before .before .before .before .before .before .before .before .before .args .machine .held) (c .before .before .before .before .before .before .before .before .before .args .event) (now (c .before .before .before .before .before .before .before .before .before .args .buf)) (now (c .before .before .before .before .before .before .before .before .before .args .out)) _ _ (c .before .before .stage4 .given .1) (c .lines-read .ensures (now (c .before .before .before .before .before .before .before .before .before .args .out))))
 
--- src/next.rt:33:1
 returns-9 : tie.Need-returns-9
 returns-9 c = large-steps (c .before .before .before .before .before .before .before .before .args .machine) (c .before .before .before .before .before .before .before .before .args .event) (now (c .before .before .before .before .before .before .before .before .args .buf)) (now (c .before .before .before .before .before .before .before .before .args .out)) _ _ refl (at-stage (c .before .before .before .before .before .before .before .before .args .machine .stage) _ (c .before .before .before .before .before .before .before .before .args .machine .held) (c .before .before .before .before .before .before .before .before .args .event) (now (c .before .before .before .before .before .before .before .before .args .buf)) (now (c .before .before .before .before .before .before .before .before .args .out)) _ _ (c .before .enum-told3 .given .1) (stop-steps _ (c .before .before .before .before .before .before .before .before .args .machine .held) (c .before .before .before .before .before .before .before .before .args .machine .held) (c .before .before .before .before .before .before .before .before .args .event) (c .before .before .before .before .before .before .before .before .args .event) (now (c .before .before .before .before .before .before .before .before .args .buf)) (now (c .before .before .before .before .before .before .before .before .args .out)) (now (c .before .before .before .before .before .before .before .before .args .out)) _ _ (c .stopped3 .ensures) refl refl))
 

@@ -6,71 +6,52 @@ use mathlib.Core.Path.{refl}
 use borrow.Author.Needs.{needs}
 use Rattle.check_machine.proofs.opening.counted.Statement.{statement}
 use Rattle.check_machine.proofs.opening.counted.Tie as tie
-use Rattle.check_machine.proofs.opening.counted.Reads as reads
-use Rattle.check_machine.proofs.opening.counted.Lts as lts
-use Rattle.check_machine.proofs.state.stopped.Reads as stopped-reads
 
--- src/opening.rt:23:22
 enum-known-event : tie.Need-enum-known-event
 enum-known-event c = search needs
 
--- src/opening.rt:25:17
 returns : tie.Need-returns
 returns c = λ buf out. at-event Stage.Counting (c .before .before .before .before .args .held) (c .before .before .before .before .args .event) _ buf out out _ (c .before .before .event .given .1) (count-right (c .before .before .before .before .args .held) _ buf out (c .if1 .taken))
 
--- src/opening.rt:30:13
 stopped-requires : tie.Need-stopped-requires
 stopped-requires c κs = search needs
 
--- src/opening.rt:32:38
 enum-told : tie.Need-enum-told
 enum-told c = search needs
 
--- src/opening.rt:32:24
 stopped-requires-2 : tie.Need-stopped-requires-2
 stopped-requires-2 c κs = search needs
 
--- src/opening.rt:33:41
 enum-told-2 : tie.Need-enum-told-2
 enum-told-2 c = search needs
 
--- src/opening.rt:33:27
 stopped-requires-3 : tie.Need-stopped-requires-3
 stopped-requires-3 c κs = search needs
 
--- src/opening.rt:34:37
 enum-told-3 : tie.Need-enum-told-3
 enum-told-3 c = search needs
 
--- src/opening.rt:34:23
 stopped-requires-4 : tie.Need-stopped-requires-4
 stopped-requires-4 c κs = search needs
 
--- src/opening.rt:35:40
 enum-told-4 : tie.Need-enum-told-4
 enum-told-4 c = search needs
 
--- src/opening.rt:35:26
 stopped-requires-5 : tie.Need-stopped-requires-5
 stopped-requires-5 c κs = search needs
 
--- src/opening.rt:19:1
 returns-2 : tie.Need-returns-2
 returns-2 c = λ buf out. wrong-count (c .before .before .before .before .before .args .held) (c .before .before .before .before .before .args .event) _ buf out _ _ (c .stopped .ensures) (c .before .before .before .event .given .1) (c .before .if1 .left)
 
--- src/opening.rt:19:1
 returns-3 : tie.Need-returns-3
 returns-3 c = λ buf out. stop-steps Stage.Counting (c .before .before .before .args .held) (c .before .before .before .args .held) (c .before .before .before .args .event) _ buf out out _ _ (c .stopped2 .ensures) (c .before .enum-told .given .1) refl
 
--- src/opening.rt:19:1
 returns-4 : tie.Need-returns-4
 returns-4 c = λ buf out. stop-steps Stage.Counting (c .before .before .before .args .held) (c .before .before .before .args .held) (c .before .before .before .args .event) _ buf out out _ _ (c .stopped3 .ensures) (c .before .enum-told2 .given .1) refl
 
--- src/opening.rt:19:1
 returns-5 : tie.Need-returns-5
 returns-5 c = λ buf out. stop-steps Stage.Counting (c .before .before .before .args .held) (c .before .before .before .args .held) (c .before .before .before .args .event) _ buf out out _ _ (c .stopped4 .ensures) (c .before .enum-told3 .given .1) refl
 
--- src/opening.rt:19:1
 returns-6 : tie.Need-returns-6
 returns-6 c = λ buf out. stop-steps Stage.Counting (c .before .before .before .args .held) (c .before .before .before .args .held) (c .before .before .before .args .event) _ buf out out _ _ (c .stopped5 .ensures) (c .before .enum-told4 .given .1) refl
 

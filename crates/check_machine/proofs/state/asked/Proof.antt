@@ -2,67 +2,49 @@
 use borrow.Author.Needs.{needs}
 use Rattle.check_machine.proofs.state.asked.Statement.{statement}
 use Rattle.check_machine.proofs.state.asked.Tie as tie
-use Rattle.check_machine.proofs.state.asked.Reads as reads
-use Rattle.check_machine.proofs.state.asked.Lts as lts
-use Rattle.judging.proofs.state.judge_asks.Reads as judge-asks-reads
 
--- src/state.rt:53:28
 enum-told : tie.Need-enum-told
 enum-told c = search needs
 
--- src/state.rt:54:27
 enum-told-2 : tie.Need-enum-told-2
 enum-told-2 c = search needs
 
--- src/state.rt:54:27
 judge-asks-requires : tie.Need-judge-asks-requires
 judge-asks-requires c κs = search needs
 
--- src/state.rt:55:23
 enum-known-stage : tie.Need-enum-known-stage
 enum-known-stage c = search needs
 
--- src/state.rt:56:27
 enum-known-stage-2 : tie.Need-enum-known-stage-2
 enum-known-stage-2 c = search needs
 
--- src/state.rt:57:30
 enum-told-3 : tie.Need-enum-told-3
 enum-told-3 c = search needs
 
--- src/state.rt:58:28
 enum-told-4 : tie.Need-enum-told-4
 enum-told-4 c = search needs
 
--- src/state.rt:59:21
 enum-known-stage-3 : tie.Need-enum-known-stage-3
 enum-known-stage-3 c = search needs
 
--- src/state.rt:45:1
 returns : tie.Need-returns
 returns c = rw (c .enum-told .given .1)
 
--- src/state.rt:45:1
 returns-2 : tie.Need-returns-2
 returns-2 c = rw (c .before .enum-told2 .given .1) (c .judge-asks .ensures)
 
--- src/state.rt:45:1
 returns-3 : tie.Need-returns-3
 returns-3 c = rw (c .before .stage .given .1)
 
--- src/state.rt:45:1
 returns-4 : tie.Need-returns-4
 returns-4 c = rw (c .before .stage2 .given .1)
 
--- src/state.rt:45:1
 returns-5 : tie.Need-returns-5
 returns-5 c = rw (c .enum-told3 .given .1)
 
--- src/state.rt:45:1
 returns-6 : tie.Need-returns-6
 returns-6 c = rw (c .enum-told4 .given .1)
 
--- src/state.rt:45:1
 returns-7 : tie.Need-returns-7
 returns-7 c = rw (c .before .stage3 .given .1)
 

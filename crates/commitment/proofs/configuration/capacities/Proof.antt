@@ -1,9 +1,8 @@
 -- `commitment::configuration::capacities` meets its contract: the loop fills the table place by place. Assumes nothing.
-use Prim.Native.Nat.{_-_, _≤_, min}
-use mathlib.Core.Path.{_≡_, refl, sym, _∙_}
+use Prim.Native.Nat.{_-_, min}
+use mathlib.Core.Path.{_∙_}
 use native.Mathlib.Omega.{arith}
-use lib.ListN.{length, getD, take}
-use Rattle.rules.specs.Numbers.{tab}
+use lib.ListN.{getD}
 use Rattle.rules.specs.Share.{capacity}
 use Rattle.modes.proofs.Filled.{Filling, filling-start, filling-more, filling-whole}
 use Rattle.commitment.specs.Choice.{capacities}

@@ -1,5 +1,5 @@
 -- `dispatch::admit::admit` meets its contract: the first test that fails decides. Assumes nothing.
-use mathlib.Core.Path.{_≡_, sym, _∙_}
+use mathlib.Core.Path.{sym, _∙_}
 use native.Mathlib.Omega.{arith}
 use borrow.Author.Tests.{not-true, not-false}
 use Rattle.dispatch.proofs.Owed.{run-ended, inputs-over, sheddable-above, buffer-short, none-refuses}

@@ -1,6 +1,6 @@
 -- `dispatch::admit::judge_seconds` meets its contract. Assumes nothing.
 use Prim.Native.Nat.{ℕ, _/_, min}
-use mathlib.Core.Path.{_≡_, sym, ap, _∙_}
+use mathlib.Core.Path.{_≡_, sym, _∙_}
 use mathlib.Core.List.{List}
 use denote.Ref.{now}
 use lib.ListN.{length, length-map}
@@ -11,7 +11,7 @@ use Rattle.rules.proofs.Shapes.{Tables}
 use Rattle.dispatch.specs.declared.admit.Judged.{Judged}
 use Rattle.dispatch.specs.Working.{admittedOf, endedAt, JudgedBy}
 use Rattle.dispatch.proofs.Each.{each-length}
-use Rattle.dispatch.proofs.Came.{came-by, came-count, enough-room}
+use Rattle.dispatch.proofs.WorkedSeconds.{came-by, came-count, enough-room}
 use borrow.Author.Needs.{needs}
 use Rattle.dispatch.proofs.admit.judge_seconds.Statement.{statement}
 use Rattle.dispatch.proofs.admit.judge_seconds.Tie as tie

@@ -1,8 +1,6 @@
 -- `dispatch::commands::start_set` meets its contract. Assumes nothing.
 use Prim.Native.Nat.{_<_}
-use mathlib.Core.Path.{_≡_, sym}
 use borrow.Author.Needs.{needs}
-use Rattle.dispatch.specs.InType.{in32}
 use Rattle.dispatch.proofs.Fits.{small32}
 use Rattle.dispatch.proofs.commands.start_set.Statement.{statement}
 use Rattle.dispatch.proofs.commands.start_set.Tie as tie

@@ -5,7 +5,6 @@ use mathlib.Core.List.{List, [], _∷_}
 use native.Mathlib.Omega.{arith}
 use denote.Ref.{now}
 use lib.ListN.{length, getD}
-use Rattle.rules.specs.declared.run.Inputs.{Inputs}
 use Rattle.dispatch.specs.Working.{firstInputs}
 use borrow.Author.Needs.{needs}
 use Rattle.dispatch.proofs.inputs.first_inputs.Statement.{statement}

@@ -5,7 +5,7 @@ use native.Mathlib.Omega.{arith}
 use denote.Ref.{now}
 use lib.ListN.{length}
 use lib.Seq.{length-take-le}
-use Rattle.dispatch.proofs.Came.{asked-in, places-in, all-admits, all-worked}
+use Rattle.dispatch.proofs.WorkedSeconds.{asked-in, places-in, all-admits, all-worked}
 use borrow.Author.Needs.{needs}
 use Rattle.dispatch.proofs.seconds.seconds.Statement.{statement}
 use Rattle.dispatch.proofs.seconds.seconds.Tie as tie

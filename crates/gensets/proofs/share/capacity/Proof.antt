@@ -11,9 +11,6 @@ use Rattle.words.proofs.Weighed.{walk-start, walk-turn, walk-end}
 use Rattle.gensets.proofs.SharesWalk.{ratingOf}
 use Rattle.gensets.proofs.share.capacity.Statement.{statement}
 use Rattle.gensets.proofs.share.capacity.Tie as tie
-use Rattle.gensets.proofs.share.capacity.Reads as reads
-use Rattle.gensets.proofs.share.capacity.Lts as lts
-use Rattle.words.proofs.masks.next_set.Reads as next-set-reads
 
 abbrev Inv-loop : tie.InvT-loop
 Inv-loop mask sets sum₀ i₀ sum i = Place mask i × (sum ≡ runningTotal sets mask i) × (sum ≤ i * 4_294_967_295)

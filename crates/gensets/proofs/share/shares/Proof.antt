@@ -6,10 +6,6 @@ use Rattle.rules.specs.Share.{capacity}
 use Rattle.gensets.proofs.SharesCases.{no-power, out-of-range, over-capacity, shared}
 use Rattle.gensets.proofs.share.shares.Statement.{statement}
 use Rattle.gensets.proofs.share.shares.Tie as tie
-use Rattle.gensets.proofs.share.shares.Reads as reads
-use Rattle.gensets.proofs.share.shares.Lts as lts
-use Rattle.gensets.proofs.share.capacity.Reads as capacity-reads
-use Rattle.gensets.proofs.share.taken.Reads as taken-reads
 
 capacity-requires : tie.Need-capacity-requires
 capacity-requires c κs = search needs

@@ -7,9 +7,6 @@ use Rattle.words.proofs.Walk.{forward}
 use Rattle.gensets.proofs.SharesWalk.{Shared, started, ended, within-capacity, given-rises, takes-rating, turned}
 use Rattle.gensets.proofs.share.taken.Statement.{statement}
 use Rattle.gensets.proofs.share.taken.Tie as tie
-use Rattle.gensets.proofs.share.taken.Reads as reads
-use Rattle.gensets.proofs.share.taken.Lts as lts
-use Rattle.words.proofs.masks.next_set.Reads as next-set-reads
 
 abbrev Inv-loop : tie.InvT-loop
 Inv-loop mask diesel cap sets out₀ sum₀ given₀ place₀ out sum given place = Shared sets mask diesel cap out sum given place

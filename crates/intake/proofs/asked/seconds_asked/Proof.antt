@@ -4,44 +4,33 @@ use Rattle.intake.proofs.AskedLaws.{askedBy, asked-by}
 use borrow.Author.Needs.{needs}
 use Rattle.intake.proofs.asked.seconds_asked.Statement.{statement}
 use Rattle.intake.proofs.asked.seconds_asked.Tie as tie
-use Rattle.intake.proofs.asked.seconds_asked.Reads as reads
-use Rattle.intake.proofs.asked.seconds_asked.Lts as lts
-use Rattle.sheet.proofs.numbers.time.Reads as time-reads
 
--- src/asked.rt:14:9
 time-requires : tie.Need-time-requires
 time-requires c κs = search needs
 
--- src/asked.rt:16:26
 enum-known-cell : tie.Need-enum-known-cell
 enum-known-cell c = search needs
 
--- src/asked.rt:16:52
 cast-t5 : tie.Need-cast-t5
 cast-t5 c = search needs
 
--- src/asked.rt:17:49
 enum-told : tie.Need-enum-told
 enum-told c = search needs
 
--- src/asked.rt:18:49
 enum-told-2 : tie.Need-enum-told-2
 enum-told-2 c = search needs
 
--- src/asked.rt:11:1
 returns : tie.Need-returns
 returns c =
     let cell = c .before .before .before .time in
     let s = c .before .before .before .before .before .args .bytes .now in
     ap askedBy (sym (c .before .cell .given .1)) ∙ asked-by (cell .result) s (cell .ensures)
 
--- src/asked.rt:11:1
 returns-2 : tie.Need-returns-2
 returns-2 c =
     let s = c .before .before .before .before .args .bytes .now in
     ap askedBy (sym (c .enum-told .given .1)) ∙ asked-by (c .before .before .time .result) s (c .before .before .time .ensures)
 
--- src/asked.rt:11:1
 returns-3 : tie.Need-returns-3
 returns-3 c =
     let s = c .before .before .before .before .args .bytes .now in

@@ -5,10 +5,7 @@ use Rattle.intake.specs.Stations.{tooLong}
 use Rattle.intake.proofs.StationLaws.{too-long-decides}
 use Rattle.intake.proofs.station_bytes.is_too_long.Statement.{statement}
 use Rattle.intake.proofs.station_bytes.is_too_long.Tie as tie
-use Rattle.intake.proofs.station_bytes.is_too_long.Reads as reads
-use Rattle.intake.proofs.station_bytes.is_too_long.Lts as lts
 
--- src/station_bytes.rt:80:1
 returns : tie.Need-returns
 unfolding tooLong
 returns c =

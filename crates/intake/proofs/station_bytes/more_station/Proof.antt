@@ -9,8 +9,6 @@ use Rattle.intake.specs.Stations.{stationWith}
 use Rattle.intake.proofs.StationLaws.{copy-turn, all-held, over-held}
 use Rattle.intake.proofs.station_bytes.more_station.Statement.{statement}
 use Rattle.intake.proofs.station_bytes.more_station.Tie as tie
-use Rattle.intake.proofs.station_bytes.more_station.Reads as reads
-use Rattle.intake.proofs.station_bytes.more_station.Lts as lts
 
 abbrev Inv-loop : tie.InvT-loop
 Inv-loop chunk bytes₀ held i₀ bytes i = (i ≤ length chunk) × (held + length chunk ≤ 677) × (length bytes₀ ≡ 677) × (bytes ≡ paste bytes₀ held chunk i)
@@ -18,15 +16,12 @@ Inv-loop chunk bytes₀ held i₀ bytes i = (i ≤ length chunk) × (held + leng
 abbrev μ-loop : tie.MeasureT-loop
 μ-loop chunk bytes₀ held i₀ bytes i = length chunk - i
 
--- src/station_bytes.rt:39:9
 lesser-requires : tie.Need-lesser-requires Inv-loop μ-loop
 lesser-requires c κs = search needs
 
--- src/station_bytes.rt:40:8
 sub-if1 : tie.Need-sub-if1 Inv-loop μ-loop
 sub-if1 c = search needs
 
--- src/station_bytes.rt:41:9
 returns : tie.Need-returns Inv-loop μ-loop
 unfolding stationWith
 returns c =
@@ -35,44 +30,35 @@ returns c =
     let size : length (a .file .bytes) ≡ 677 = simp length-map at (c .before .before .before .before .good .0 .1 .1 .0 .1 .0 .1) in
     λ rest. over-held (a .file .bytes) (a .file .len) (least .result) size (least .ensures) (a .chunk .now) rest (omega arith)
 
--- src/station_bytes.rt:47:5
 loop-holds : tie.Need-loop-holds Inv-loop μ-loop
 loop-holds c =
     let a = c .before .before .before .before .args in
     let size : length (a .file .bytes) ≡ 677 = simp length-map at (c .before .before .before .before .good .0 .1 .1 .0 .1 .0 .1) in
     (omega arith, omega arith, size, paste-zero (a .file .bytes) (c .before .lesser .result) (a .chunk .now))
 
--- src/station_bytes.rt:48:18
 add-at : tie.Need-add-at Inv-loop μ-loop
 add-at c = search needs
 
--- src/station_bytes.rt:49:21
 shared-slice-read-bytes : tie.Need-shared-slice-read-bytes Inv-loop μ-loop
 shared-slice-read-bytes c = search needs
 
--- src/station_bytes.rt:49:9
 array-write-bytes : tie.Need-array-write-bytes Inv-loop μ-loop
 array-write-bytes c = search needs
 
--- src/station_bytes.rt:50:9
 add-i : tie.Need-add-i Inv-loop μ-loop
 add-i c = search needs
 
--- src/station_bytes.rt:47:5
 loop-less : tie.Need-loop-less Inv-loop μ-loop
 loop-less c = search needs
 
--- src/station_bytes.rt:47:5
 loop-again : tie.Need-loop-again Inv-loop μ-loop
 loop-again c =
     let l = c .before .before .loop in
     (omega arith, l .inv .1, l .inv .2, copy-turn _ _ _ _ (l .i) (l .inv .3) (omega arith) (omega arith))
 
--- src/station_bytes.rt:54:14
 add-t7 : tie.Need-add-t7 Inv-loop μ-loop
 add-t7 c = search needs
 
--- src/station_bytes.rt:35:1
 returns-2 : tie.Need-returns-2 Inv-loop μ-loop
 unfolding stationWith
 returns-2 c =

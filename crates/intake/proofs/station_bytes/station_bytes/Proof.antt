@@ -3,10 +3,7 @@ use mathlib.Core.Path.{refl}
 use Rattle.intake.specs.Stations.{stationWith}
 use Rattle.intake.proofs.station_bytes.station_bytes.Statement.{statement}
 use Rattle.intake.proofs.station_bytes.station_bytes.Tie as tie
-use Rattle.intake.proofs.station_bytes.station_bytes.Reads as reads
-use Rattle.intake.proofs.station_bytes.station_bytes.Lts as lts
 
--- src/station_bytes.rt:25:1
 returns : tie.Need-returns
 unfolding stationWith
 returns c = λ rest. refl

@@ -12,31 +12,23 @@ use Rattle.intake.proofs.StationLaws.{held-is}
 use borrow.Author.Needs.{needs}
 use Rattle.intake.proofs.station_bytes.station_of.Statement.{statement}
 use Rattle.intake.proofs.station_bytes.station_of.Tie as tie
-use Rattle.intake.proofs.station_bytes.station_of.Reads as reads
-use Rattle.intake.proofs.station_bytes.station_of.Lts as lts
-use Rattle.station.proofs.reader.read_station.Reads as read-station-reads
 
--- src/station_bytes.rt:63:9
 lesser-requires : tie.Need-lesser-requires
 lesser-requires c κs = search needs
 
--- src/station_bytes.rt:64:18
 array-share-prefix-bytes : tie.Need-array-share-prefix-bytes
 array-share-prefix-bytes c =
     let size : length (c .before .before .args .file .bytes) ≡ 677 = simp length-map at (c .before .before .good .0 .1 .1 .0 .1 .0 .1) in
     omega arith
 
--- src/station_bytes.rt:64:18
 slice-aggregate-read-station : tie.Need-slice-aggregate-read-station
 slice-aggregate-read-station c =
     let size : length (c .before .before .before .args .file .bytes) ≡ 677 = simp length-map at (c .before .before .before .good .0 .1 .1 .0 .1 .0 .1) in
     simp length-take (omega arith)
 
--- src/station_bytes.rt:64:5
 read-station-requires : tie.Need-read-station-requires
 read-station-requires c κs = search needs
 
--- src/station_bytes.rt:59:1
 returns : tie.Need-returns
 unfolding stationWith
 returns c =

@@ -1,12 +1,9 @@
 -- `intake::tally::at_word_end` meets its contract. Assumes nothing.
-use mathlib.Core.Path.{_≡_}
 use native.Mathlib.Omega.{arith}
 use Rattle.intake.specs.Tally.{atWordEnd}
 use Rattle.intake.proofs.TallyLaws.{at-word-end-last}
 use Rattle.intake.proofs.tally.at_word_end.Statement.{statement}
 use Rattle.intake.proofs.tally.at_word_end.Tie as tie
-use Rattle.intake.proofs.tally.at_word_end.Reads as reads
-use Rattle.intake.proofs.tally.at_word_end.Lts as lts
 
 returns : tie.Need-returns
 unfolding atWordEnd

@@ -3,33 +3,22 @@ use Rattle.intake.specs.Tally.{withByte}
 use borrow.Author.Needs.{needs}
 use Rattle.intake.proofs.tally.with_byte.Statement.{statement}
 use Rattle.intake.proofs.tally.with_byte.Tie as tie
-use Rattle.intake.proofs.tally.with_byte.Reads as reads
-use Rattle.intake.proofs.tally.with_byte.Lts as lts
-use Rattle.intake.proofs.tally.at_word_end.Reads as at-word-end-reads
-use Rattle.intake.proofs.tally.worth.Reads as worth-reads
-use Rattle.std.proofs.num.wrapping_add_u64.Reads as wrapping-add-u64-reads
 
--- src/tally.rt:68:44
 worth-requires : tie.Need-worth-requires
 worth-requires c κs = search needs
 
--- src/tally.rt:68:9
 wrapping-add-u64-requires : tie.Need-wrapping-add-u64-requires
 wrapping-add-u64-requires c κs = search needs
 
--- src/tally.rt:70:16
 wrapping-add-u64-requires-2 : tie.Need-wrapping-add-u64-requires-2
 wrapping-add-u64-requires-2 c κs = search needs
 
--- src/tally.rt:72:45
 at-word-end-requires : tie.Need-at-word-end-requires
 at-word-end-requires c κs = search needs
 
--- src/tally.rt:72:15
 wrapping-add-u64-requires-3 : tie.Need-wrapping-add-u64-requires-3
 wrapping-add-u64-requires-3 c κs = search needs
 
--- src/tally.rt:64:1
 returns : tie.Need-returns
 unfolding withByte
 returns c = rw (c .wrapping-add-u643 .ensures, c .before .at-word-end .ensures, c .before .before .wrapping-add-u642 .ensures, c .before .before .before .wrapping-add-u64 .ensures, c .before .before .before .before .worth .ensures)

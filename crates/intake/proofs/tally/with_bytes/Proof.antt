@@ -1,5 +1,5 @@
 -- `intake::tally::with_bytes` meets its contract. Assumes nothing.
-use Prim.Native.Nat.{_-_, _≤_, _%_}
+use Prim.Native.Nat.{_-_, _≤_}
 use mathlib.Core.Path.{_≡_, refl}
 use native.Mathlib.Omega.{arith}
 use lib.ListN.{length, drop}
@@ -8,9 +8,6 @@ use Rattle.intake.specs.Tally.{talliedOf}
 use Rattle.intake.proofs.TallyLaws.{tally-turn}
 use Rattle.intake.proofs.tally.with_bytes.Statement.{statement}
 use Rattle.intake.proofs.tally.with_bytes.Tie as tie
-use Rattle.intake.proofs.tally.with_bytes.Reads as reads
-use Rattle.intake.proofs.tally.with_bytes.Lts as lts
-use Rattle.intake.proofs.tally.with_byte.Reads as with-byte-reads
 
 abbrev Inv-loop : tie.InvT-loop
 Inv-loop chunk from to tally₀ i₀ tally i = (i ≤ to) × (to ≤ length chunk) × (talliedOf tally₀ (drop from chunk) ≡ talliedOf tally (drop i chunk))
@@ -18,33 +15,26 @@ Inv-loop chunk from to tally₀ i₀ tally i = (i ≤ to) × (to ≤ length chun
 abbrev μ-loop : tie.MeasureT-loop
 μ-loop chunk from to tally₀ i₀ tally i = to - i
 
--- src/tally.rt:83:5
 loop-holds : tie.Need-loop-holds Inv-loop μ-loop
 loop-holds c = (omega arith, omega arith, refl)
 
--- src/tally.rt:84:34
 shared-slice-read-with-byte : tie.Need-shared-slice-read-with-byte Inv-loop μ-loop
 shared-slice-read-with-byte c = search needs
 
--- src/tally.rt:84:9
 with-byte-requires : tie.Need-with-byte-requires Inv-loop μ-loop
 with-byte-requires c κs = search needs
 
--- src/tally.rt:85:9
 add-i : tie.Need-add-i Inv-loop μ-loop
 add-i c = search needs
 
--- src/tally.rt:83:5
 loop-less : tie.Need-loop-less Inv-loop μ-loop
 loop-less c = search needs
 
--- src/tally.rt:83:5
 loop-again : tie.Need-loop-again Inv-loop μ-loop
 loop-again c =
     let l = c .before .before .before .loop in
     (omega arith, omega arith, rw (c .with-byte .ensures) (tally-turn _ (l .tally) _ (l .i) (omega arith) (l .inv .2)))
 
--- src/tally.rt:77:1
 returns : tie.Need-returns Inv-loop μ-loop
 returns c =
     let l = c .before .loop in

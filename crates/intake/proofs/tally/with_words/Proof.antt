@@ -8,9 +8,6 @@ use Rattle.intake.specs.Tally.{talliedOf}
 use Rattle.intake.proofs.TallyLaws.{tally-words}
 use Rattle.intake.proofs.tally.with_words.Statement.{statement}
 use Rattle.intake.proofs.tally.with_words.Tie as tie
-use Rattle.intake.proofs.tally.with_words.Reads as reads
-use Rattle.intake.proofs.tally.with_words.Lts as lts
-use Rattle.intake.proofs.tally.with_word.Reads as with-word-reads
 
 abbrev Inv-loop : tie.InvT-loop
 Inv-loop chunk from tally₀ next₀ tally next = (next ≤ length chunk) × (tally .count % 4 ≡ 0) × (talliedOf tally₀ (drop from chunk) ≡ talliedOf tally (drop next chunk))
@@ -18,55 +15,42 @@ Inv-loop chunk from tally₀ next₀ tally next = (next ≤ length chunk) × (ta
 abbrev μ-loop : tie.MeasureT-loop
 μ-loop chunk from tally₀ next₀ tally next = length chunk - next
 
--- src/tally.rt:122:9
 returns : tie.Need-returns Inv-loop μ-loop
 returns c = (omega arith, refl)
 
--- src/tally.rt:124:5
 loop-holds : tie.Need-loop-holds Inv-loop μ-loop
 loop-holds c = (omega arith, omega arith, refl)
 
--- src/tally.rt:124:17
 sub-loop : tie.Need-sub-loop Inv-loop μ-loop
 sub-loop c = search needs
 
--- src/tally.rt:125:9
 with-word-requires : tie.Need-with-word-requires Inv-loop μ-loop
 with-word-requires c κs = search needs
 
--- src/tally.rt:126:41
 add-with-word : tie.Need-add-with-word Inv-loop μ-loop
 add-with-word c = search needs
 
--- src/tally.rt:126:9
 with-word-requires-2 : tie.Need-with-word-requires-2 Inv-loop μ-loop
 with-word-requires-2 c κs = search needs
 
--- src/tally.rt:127:41
 add-with-word-2 : tie.Need-add-with-word-2 Inv-loop μ-loop
 add-with-word-2 c = search needs
 
--- src/tally.rt:127:9
 with-word-requires-3 : tie.Need-with-word-requires-3 Inv-loop μ-loop
 with-word-requires-3 c κs = search needs
 
--- src/tally.rt:128:41
 add-with-word-3 : tie.Need-add-with-word-3 Inv-loop μ-loop
 add-with-word-3 c = search needs
 
--- src/tally.rt:128:9
 with-word-requires-4 : tie.Need-with-word-requires-4 Inv-loop μ-loop
 with-word-requires-4 c κs = search needs
 
--- src/tally.rt:129:9
 add-next : tie.Need-add-next Inv-loop μ-loop
 add-next c = search needs
 
--- src/tally.rt:124:5
 loop-less : tie.Need-loop-less Inv-loop μ-loop
 loop-less c = search needs
 
--- src/tally.rt:124:5
 loop-again : tie.Need-loop-again Inv-loop μ-loop
 loop-again c =
     let l = c .before .before .before .before .before .loop in
@@ -77,7 +61,6 @@ loop-again c =
     let words = tally-words _ (l .tally) (w₁ .result) (w₂ .result) (w₃ .result) (w₄ .result) _ (l .next) (l .inv .2) (l .inv .1) (w₁ .ensures) (w₂ .ensures) (w₃ .ensures) (w₄ .ensures) in
     (omega arith, words .0, words .1)
 
--- src/tally.rt:115:1
 returns-2 : tie.Need-returns-2 Inv-loop μ-loop
 returns-2 c = let l = c .before .loop in (omega arith, l .inv .2)
 

@@ -1,59 +1,44 @@
 -- `intake::tally::worth` meets its contract. Assumes nothing.
-use mathlib.Core.Path.{_≡_}
 use native.Mathlib.Omega.{arith}
 use Rattle.intake.specs.Tally.{worth}
 use Rattle.intake.proofs.TallyLaws.{worth-last}
 use borrow.Author.Needs.{needs}
 use Rattle.intake.proofs.tally.worth.Statement.{statement}
 use Rattle.intake.proofs.tally.worth.Tie as tie
-use Rattle.intake.proofs.tally.worth.Reads as reads
-use Rattle.intake.proofs.tally.worth.Lts as lts
-use Rattle.words.proofs.arithmetic.byte_u64.Reads as byte-u64-reads
 
--- src/tally.rt:44:14
 byte-u64-requires : tie.Need-byte-u64-requires
 byte-u64-requires c κs = search needs
 
--- src/tally.rt:45:14
 byte-u64-requires-2 : tie.Need-byte-u64-requires-2
 byte-u64-requires-2 c κs = search needs
 
--- src/tally.rt:45:14
 mul-result : tie.Need-mul-result
 mul-result c = search needs
 
--- src/tally.rt:46:14
 byte-u64-requires-3 : tie.Need-byte-u64-requires-3
 byte-u64-requires-3 c κs = search needs
 
--- src/tally.rt:46:14
 mul-result-2 : tie.Need-mul-result-2
 mul-result-2 c = search needs
 
--- src/tally.rt:47:14
 byte-u64-requires-4 : tie.Need-byte-u64-requires-4
 byte-u64-requires-4 c κs = search needs
 
--- src/tally.rt:47:14
 mul-result-3 : tie.Need-mul-result-3
 mul-result-3 c = search needs
 
--- src/tally.rt:40:1
 returns : tie.Need-returns
 unfolding worth
 returns c = rw (c .before .match .keys1, c .byte-u64 .ensures .0)
 
--- src/tally.rt:40:1
 returns-2 : tie.Need-returns-2
 unfolding worth
 returns-2 c = rw (c .before .match .keys2, c .byte-u642 .ensures .0)
 
--- src/tally.rt:40:1
 returns-3 : tie.Need-returns-3
 unfolding worth
 returns-3 c = rw (c .before .match .keys3, c .byte-u643 .ensures .0)
 
--- src/tally.rt:40:1
 returns-4 : tie.Need-returns-4
 returns-4 c = rw (c .byte-u644 .ensures .0) (worth-last _ _ (omega (arith, c .before .match .rest)))
 

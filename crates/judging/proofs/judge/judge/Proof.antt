@@ -8,95 +8,67 @@ use denote.Ref.{now}
 use borrow.Author.Needs.{needs}
 use Rattle.judging.proofs.judge.judge.Statement.{statement}
 use Rattle.judging.proofs.judge.judge.Tie as tie
-use Rattle.judging.proofs.judge.judge.Reads as reads
-use Rattle.judging.proofs.judge.judge.Lts as lts
-use Rattle.judging.proofs.judge.opened.Reads as opened-reads
-use Rattle.judging.proofs.reading.samples_read.Reads as samples-read-reads
-use Rattle.judging.proofs.reading.station_read.Reads as station-read-reads
-use Rattle.judging.proofs.state.moved.Reads as moved-reads
-use Rattle.judging.proofs.state.stopped.Reads as stopped-reads
 
--- src/judge.rt:57:13
 enum-told : tie.Need-enum-told
 enum-told c = search needs
 
--- src/judge.rt:54:36
 moved-requires : tie.Need-moved-requires
 moved-requires c κs = search needs
 
--- src/judge.rt:60:36
 enum-told-2 : tie.Need-enum-told-2
 enum-told-2 c = search needs
 
--- src/judge.rt:60:36
 station-read-requires : tie.Need-station-read-requires
 station-read-requires c κs = search needs
 
--- src/judge.rt:61:36
 enum-told-3 : tie.Need-enum-told-3
 enum-told-3 c = search needs
 
--- src/judge.rt:61:36
 opened-requires : tie.Need-opened-requires
 opened-requires c κs = search needs
 
--- src/judge.rt:62:51
 enum-told-4 : tie.Need-enum-told-4
 enum-told-4 c = search needs
 
--- src/judge.rt:62:32
 moved-requires-2 : tie.Need-moved-requires-2
 moved-requires-2 c κs = search needs
 
--- src/judge.rt:63:36
 enum-told-5 : tie.Need-enum-told-5
 enum-told-5 c = search needs
 
--- src/judge.rt:63:36
 samples-read-requires : tie.Need-samples-read-requires
 samples-read-requires c κs = search needs
 
--- src/judge.rt:64:45
 enum-told-6 : tie.Need-enum-told-6
 enum-told-6 c = search needs
 
--- src/judge.rt:64:31
 stopped-requires : tie.Need-stopped-requires
 stopped-requires c κs = search needs
 
--- src/judge.rt:65:49
 enum-told-7 : tie.Need-enum-told-7
 enum-told-7 c = search needs
 
--- src/judge.rt:65:35
 stopped-requires-2 : tie.Need-stopped-requires-2
 stopped-requires-2 c κs = search needs
 
--- src/judge.rt:48:1
 returns : tie.Need-returns
 returns c = at-stage _ _ (c .before .before .before .before .before .args .judging .held) (c .before .before .before .before .before .args .event) (now (c .before .before .before .before .before .args .buf)) _ (c .before .enum-told .given .1) (subst (JudgesFrom JudgeStage.OpenStation (c .before .before .before .before .before .args .judging .held) (c .before .before .before .before .before .args .event) (now (c .before .before .before .before .before .args .buf))) (sym (c .moved .ensures)) (open-station (c .before .before .before .before .before .args .judging .held) (c .before .before .before .before .before .args .event) (now (c .before .before .before .before .before .args .buf))))
 
--- src/judge.rt:48:1
 returns-2 : tie.Need-returns-2
 returns-2 c = at-stage _ _ (c .before .before .before .before .before .args .judging .held) (c .before .before .before .before .before .args .event) (now (c .before .before .before .before .before .args .buf)) _ (c .before .enum-told2 .given .1) (c .station-read .ensures)
 
--- src/judge.rt:48:1
 returns-3 : tie.Need-returns-3
 returns-3 c = at-stage _ _ (c .before .before .before .before .before .args .judging .held) (c .before .before .before .before .before .args .event) (now (c .before .before .before .before .before .args .buf)) _ (c .before .enum-told3 .given .1) (subst (JudgesFrom JudgeStage.OpenSamples (c .before .before .before .before .before .args .judging .held) (c .before .before .before .before .before .args .event) (now (c .before .before .before .before .before .args .buf))) (sym (c .opened .ensures)) (open-samples _ (c .before .before .before .before .before .args .judging .held) (c .before .before .before .before .before .args .event) (now (c .before .before .before .before .before .args .buf)) refl))
 
--- src/judge.rt:48:1
 returns-4 : tie.Need-returns-4
 returns-4 c = at-stage _ _ (c .before .before .before .before .before .args .judging .held) (c .before .before .before .before .before .args .event) (now (c .before .before .before .before .before .args .buf)) _ (c .before .enum-told4 .given .1) (subst (JudgesFrom JudgeStage.ToStart (c .before .before .before .before .before .args .judging .held) (c .before .before .before .before .before .args .event) (now (c .before .before .before .before .before .args .buf))) (sym (c .moved2 .ensures)) (to-start (c .before .before .before .before .before .args .judging .held) (c .before .before .before .before .before .args .event) (now (c .before .before .before .before .before .args .buf))))
 
--- src/judge.rt:48:1
 returns-5 : tie.Need-returns-5
 returns-5 c = at-stage _ _ (c .before .before .before .before .before .args .judging .held) (c .before .before .before .before .before .args .event) (now (c .before .before .before .before .before .args .buf)) _ (c .before .enum-told5 .given .1) (c .samples-read .ensures)
 
--- src/judge.rt:48:1
 returns-6 : tie.Need-returns-6
 returns-6 c = at-stage _ _ (c .before .before .before .before .before .args .judging .held) (c .before .before .before .before .before .args .event) (now (c .before .before .before .before .before .args .buf)) _ (c .before .enum-told6 .given .1) (stop-steps _ (c .before .before .before .before .before .args .judging .held) (c .before .before .before .before .before .args .event) (c .before .before .before .before .before .args .event) (now (c .before .before .before .before .before .args .buf)) _ _ (c .stopped .ensures) refl refl)
 
--- src/judge.rt:48:1
 returns-7 : tie.Need-returns-7
 returns-7 c = at-stage _ _ (c .before .before .before .before .before .args .judging .held) (c .before .before .before .before .before .args .event) (now (c .before .before .before .before .before .args .buf)) _ (c .before .enum-told7 .given .1) (stop-steps _ (c .before .before .before .before .before .args .judging .held) (c .before .before .before .before .before .args .event) (c .before .before .before .before .before .args .event) (now (c .before .before .before .before .before .args .buf)) _ _ (c .stopped2 .ensures) refl refl)
 

@@ -5,23 +5,16 @@ use Rattle.judging.specs.Stages.{openedBy}
 use borrow.Author.Needs.{needs}
 use Rattle.judging.proofs.judge.opened.Statement.{statement}
 use Rattle.judging.proofs.judge.opened.Tie as tie
-use Rattle.judging.proofs.judge.opened.Reads as reads
-use Rattle.judging.proofs.judge.opened.Lts as lts
-use Rattle.judging.proofs.state.moved.Reads as moved-reads
 
--- src/judge.rt:40:9
 moved-requires : tie.Need-moved-requires
 moved-requires c κs = search needs
 
--- src/judge.rt:40:9
 returns : tie.Need-returns
 returns c = c .moved .ensures ∙ ap (λ (b : Bool). openedBy b (c .before .before .args .event) (c .before .before .args .held)) (sym (c .before .if1 .taken))
 
--- src/judge.rt:42:5
 moved-requires-2 : tie.Need-moved-requires-2
 moved-requires-2 c κs = search needs
 
--- src/judge.rt:36:1
 returns-2 : tie.Need-returns-2
 returns-2 c = c .moved2 .ensures ∙ ap (λ (b : Bool). openedBy b (c .before .before .args .event) (c .before .before .args .held)) (sym (c .before .if1 .left))
 

@@ -5,29 +5,19 @@ use mathlib.Core.Path.{sym, _∙_}
 use borrow.Author.Needs.{needs}
 use Rattle.judging.proofs.reading.samples_chunk.Statement.{statement}
 use Rattle.judging.proofs.reading.samples_chunk.Tie as tie
-use Rattle.judging.proofs.reading.samples_chunk.Reads as reads
-use Rattle.judging.proofs.reading.samples_chunk.Lts as lts
-use Rattle.intake.proofs.tally.tallied.Reads as tallied-reads
-use Rattle.samples.proofs.check.feed.Reads as feed-reads
-use Rattle.samples.proofs.check.is_refused.Reads as is-refused-reads
 
--- src/reading.rt:93:9
 feed-requires : tie.Need-feed-requires
 feed-requires c κs = search needs
 
--- src/reading.rt:94:9
 tallied-requires : tie.Need-tallied-requires
 tallied-requires c κs = search needs
 
--- src/reading.rt:98:8
 is-refused-requires : tie.Need-is-refused-requires
 is-refused-requires c κs = search needs
 
--- src/reading.rt:99:9
 returns : tie.Need-returns
 returns c = samples-cut (c .before .before .before .before .before .args .held) (now (c .before .before .before .before .before .args .chunk)) (c .before .before .before .feed .result) (c .before .before .tallied .result) (c .before .before .before .feed .ensures) (c .before .before .tallied .ensures) (sym (c .before .is-refused .ensures) ∙ c .if1 .taken)
 
--- src/reading.rt:90:1
 returns-2 : tie.Need-returns-2
 returns-2 c = samples-enter (c .before .before .before .before .before .args .held) (now (c .before .before .before .before .before .args .chunk)) (c .before .before .before .feed .result) (c .before .before .tallied .result) (c .before .before .before .feed .ensures) (c .before .before .tallied .ensures)
 

@@ -4,38 +4,25 @@ use denote.Ref.{now}
 use borrow.Author.Needs.{needs}
 use Rattle.judging.proofs.reading.station_chunk.Statement.{statement}
 use Rattle.judging.proofs.reading.station_chunk.Tie as tie
-use Rattle.judging.proofs.reading.station_chunk.Reads as reads
-use Rattle.judging.proofs.reading.station_chunk.Lts as lts
-use Rattle.intake.proofs.station_bytes.is_too_long.Reads as is-too-long-reads
-use Rattle.intake.proofs.station_bytes.more_station.Reads as more-station-reads
-use Rattle.judging.proofs.reading.more_bytes.Reads as more-bytes-reads
-use Rattle.judging.proofs.reading.station_judged.Reads as station-judged-reads
 
--- src/reading.rt:52:9
 more-station-requires : tie.Need-more-station-requires
 more-station-requires c κs = search needs
 
--- src/reading.rt:53:9
 more-bytes-requires : tie.Need-more-bytes-requires
 more-bytes-requires c κs = search needs
 
--- src/reading.rt:58:9
 returns : tie.Need-returns
 returns c = station-enters (c .before .before .before .before .args .held) (now (c .before .before .before .before .args .chunk)) (c .before .before .more-station .result) (c .before .more-bytes .result) (c .before .before .more-station .ensures)
 
--- src/reading.rt:63:8
 is-too-long-requires : tie.Need-is-too-long-requires
 is-too-long-requires c κs = search needs
 
--- src/reading.rt:64:9
 station-judged-requires : tie.Need-station-judged-requires
 station-judged-requires c κs = search needs
 
--- src/reading.rt:64:9
 returns-2 : tie.Need-returns-2
 returns-2 c = station-cut (c .before .before .before .before .before .before .before .args .held) (now (c .before .before .before .before .before .before .before .args .chunk)) (c .before .before .before .before .before .more-station .result) (c .before .before .before .before .more-bytes .result) (c .station-judged .result) (c .before .before .before .before .before .more-station .ensures) (c .before .before .is-too-long .ensures .1 (c .before .if2 .taken)) (c .station-judged .ensures)
 
--- src/reading.rt:49:1
 returns-3 : tie.Need-returns-3
 returns-3 c = station-enters (c .before .before .before .before .before .before .args .held) (now (c .before .before .before .before .before .before .args .chunk)) (c .before .before .before .before .more-station .result) (c .before .before .before .more-bytes .result) (c .before .before .before .before .more-station .ensures)
 

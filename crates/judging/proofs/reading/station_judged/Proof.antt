@@ -4,19 +4,13 @@ use mathlib.Core.Path.{sym, _∙_}
 use borrow.Author.Needs.{needs}
 use Rattle.judging.proofs.reading.station_judged.Statement.{statement}
 use Rattle.judging.proofs.reading.station_judged.Tie as tie
-use Rattle.judging.proofs.reading.station_judged.Reads as reads
-use Rattle.judging.proofs.reading.station_judged.Lts as lts
-use Rattle.intake.proofs.station_bytes.is_station_refused.Reads as is-station-refused-reads
 
--- src/reading.rt:26:8
 is-station-refused-requires : tie.Need-is-station-refused-requires
 is-station-refused-requires c κs = search needs
 
--- src/reading.rt:27:9
 returns : tie.Need-returns
 returns c = station-refused (c .before .before .args .held) (sym (c .before .is-station-refused .ensures) ∙ c .if1 .taken)
 
--- src/reading.rt:23:1
 returns-2 : tie.Need-returns-2
 returns-2 c = station-accepted (c .before .before .args .held)
 

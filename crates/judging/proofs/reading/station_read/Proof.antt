@@ -9,81 +9,58 @@ use mathlib.Core.Path.{refl}
 use borrow.Author.Needs.{needs}
 use Rattle.judging.proofs.reading.station_read.Statement.{statement}
 use Rattle.judging.proofs.reading.station_read.Tie as tie
-use Rattle.judging.proofs.reading.station_read.Reads as reads
-use Rattle.judging.proofs.reading.station_read.Lts as lts
-use Rattle.judging.proofs.reading.station_chunk.Reads as station-chunk-reads
-use Rattle.judging.proofs.reading.station_judged.Reads as station-judged-reads
-use Rattle.judging.proofs.state.stopped.Reads as stopped-reads
 
--- src/reading.rt:76:21
 enum-known-event : tie.Need-enum-known-event
 enum-known-event c = search needs
 
--- src/reading.rt:78:17
 stopped-requires : tie.Need-stopped-requires
 stopped-requires c κs = search needs
 
--- src/reading.rt:78:17
 returns : tie.Need-returns
 returns c = short-stop JudgeStage.ReadStation 1 (c .before .before .before .before .before .before .args .held) (c .before .before .before .before .before .before .args .event) _ (now (c .before .before .before .before .before .before .args .buf)) _ _ refl (c .stopped .ensures) (c .before .before .before .event .given .1) (c .before .if1 .taken)
 
--- src/reading.rt:80:33
 slice-aggregate-station-chunk : tie.Need-slice-aggregate-station-chunk
 slice-aggregate-station-chunk c = simp length-take (omega arith)
 
--- src/reading.rt:80:13
 station-chunk-requires : tie.Need-station-chunk-requires
 station-chunk-requires c κs = search needs
 
--- src/reading.rt:82:23
 enum-told : tie.Need-enum-told
 enum-told c = search needs
 
--- src/reading.rt:82:23
 station-judged-requires : tie.Need-station-judged-requires
 station-judged-requires c κs = search needs
 
--- src/reading.rt:83:38
 enum-told-2 : tie.Need-enum-told-2
 enum-told-2 c = search needs
 
--- src/reading.rt:83:24
 stopped-requires-2 : tie.Need-stopped-requires-2
 stopped-requires-2 c κs = search needs
 
--- src/reading.rt:84:42
 enum-told-3 : tie.Need-enum-told-3
 enum-told-3 c = search needs
 
--- src/reading.rt:84:28
 stopped-requires-3 : tie.Need-stopped-requires-3
 stopped-requires-3 c κs = search needs
 
--- src/reading.rt:85:40
 enum-told-4 : tie.Need-enum-told-4
 enum-told-4 c = search needs
 
--- src/reading.rt:85:26
 stopped-requires-4 : tie.Need-stopped-requires-4
 stopped-requires-4 c κs = search needs
 
--- src/reading.rt:72:1
 returns-2 : tie.Need-returns-2
 returns-2 c = at-event JudgeStage.ReadStation (c .before .before .before .before .before .before .before .args .held) (c .before .before .before .before .before .before .before .args .event) _ (now (c .before .before .before .before .before .before .before .args .buf)) _ (c .before .before .before .before .event .given .1) (station-read-steps (c .before .before .before .before .before .before .before .args .held) _ (now (c .before .before .before .before .before .before .before .args .buf)) _ _ refl (c .station-chunk .ensures))
 
--- src/reading.rt:72:1
 returns-3 : tie.Need-returns-3
 returns-3 c = at-event JudgeStage.ReadStation (c .before .before .before .before .args .held) (c .before .before .before .before .args .event) _ (now (c .before .before .before .before .args .buf)) _ (c .before .enum-told .given .1) (station-end-steps (c .before .before .before .before .args .held) (now (c .before .before .before .before .args .buf)) _ (c .station-judged .ensures))
 
--- src/reading.rt:72:1
 returns-4 : tie.Need-returns-4
 returns-4 c = stop-steps JudgeStage.ReadStation (c .before .before .before .before .args .held) (c .before .before .before .before .args .event) _ (now (c .before .before .before .before .args .buf)) _ _ (c .stopped2 .ensures) (c .before .enum-told2 .given .1) refl
 
--- src/reading.rt:72:1
 returns-5 : tie.Need-returns-5
 returns-5 c = stop-steps JudgeStage.ReadStation (c .before .before .before .before .args .held) (c .before .before .before .before .args .event) _ (now (c .before .before .before .before .args .buf)) _ _ (c .stopped3 .ensures) (c .before .enum-told3 .given .1) refl
 
--- src/reading.rt:72:1
 returns-6 : tie.Need-returns-6
 returns-6 c = stop-steps JudgeStage.ReadStation (c .before .before .before .before .args .held) (c .before .before .before .before .args .event) _ (now (c .before .before .before .before .args .buf)) _ _ (c .stopped4 .ensures) (c .before .enum-told4 .given .1) refl
 

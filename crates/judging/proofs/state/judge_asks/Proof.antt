@@ -2,62 +2,46 @@
 use borrow.Author.Needs.{needs}
 use Rattle.judging.proofs.state.judge_asks.Statement.{statement}
 use Rattle.judging.proofs.state.judge_asks.Tie as tie
-use Rattle.judging.proofs.state.judge_asks.Reads as reads
-use Rattle.judging.proofs.state.judge_asks.Lts as lts
 
--- src/state.rt:54:36
 enum-told : tie.Need-enum-told
 enum-told c = search needs
 
--- src/state.rt:55:36
 enum-told-2 : tie.Need-enum-told-2
 enum-told-2 c = search needs
 
--- src/state.rt:56:36
 enum-told-3 : tie.Need-enum-told-3
 enum-told-3 c = search needs
 
--- src/state.rt:57:32
 enum-told-4 : tie.Need-enum-told-4
 enum-told-4 c = search needs
 
--- src/state.rt:58:36
 enum-told-5 : tie.Need-enum-told-5
 enum-told-5 c = search needs
 
--- src/state.rt:59:58
 enum-told-6 : tie.Need-enum-told-6
 enum-told-6 c = search needs
 
--- src/state.rt:60:29
 enum-known-stage : tie.Need-enum-known-stage
 enum-known-stage c = search needs
 
--- src/state.rt:50:1
 returns : tie.Need-returns
 returns c = search needs
 
--- src/state.rt:50:1
 returns-2 : tie.Need-returns-2
 returns-2 c = rw (c .enum-told2 .given .1)
 
--- src/state.rt:50:1
 returns-3 : tie.Need-returns-3
 returns-3 c = search needs
 
--- src/state.rt:50:1
 returns-4 : tie.Need-returns-4
 returns-4 c = search needs
 
--- src/state.rt:50:1
 returns-5 : tie.Need-returns-5
 returns-5 c = rw (c .enum-told5 .given .1)
 
--- src/state.rt:50:1
 returns-6 : tie.Need-returns-6
 returns-6 c = rw (c .enum-told6 .given .1)
 
--- src/state.rt:50:1
 returns-7 : tie.Need-returns-7
 returns-7 c = rw (c .before .stage .given .1)
 

@@ -2,63 +2,46 @@
 use borrow.Author.Needs.{needs}
 use Rattle.judging.proofs.state.moved.Statement.{statement}
 use Rattle.judging.proofs.state.moved.Tie as tie
-use Rattle.judging.proofs.state.moved.Reads as reads
-use Rattle.judging.proofs.state.moved.Lts as lts
-use Rattle.judging.proofs.state.stopped.Reads as stopped-reads
 
--- src/state.rt:78:24
 enum-told : tie.Need-enum-told
 enum-told c = search needs
 
--- src/state.rt:79:42
 enum-told-2 : tie.Need-enum-told-2
 enum-told-2 c = search needs
 
--- src/state.rt:79:28
 stopped-requires : tie.Need-stopped-requires
 stopped-requires c κs = search needs
 
--- src/state.rt:80:41
 enum-told-3 : tie.Need-enum-told-3
 enum-told-3 c = search needs
 
--- src/state.rt:80:27
 stopped-requires-2 : tie.Need-stopped-requires-2
 stopped-requires-2 c κs = search needs
 
--- src/state.rt:81:37
 enum-told-4 : tie.Need-enum-told-4
 enum-told-4 c = search needs
 
--- src/state.rt:81:23
 stopped-requires-3 : tie.Need-stopped-requires-3
 stopped-requires-3 c κs = search needs
 
--- src/state.rt:82:26
 enum-told-5 : tie.Need-enum-told-5
 enum-told-5 c = search needs
 
--- src/state.rt:82:26
 stopped-requires-4 : tie.Need-stopped-requires-4
 stopped-requires-4 c κs = search needs
 
--- src/state.rt:74:1
 returns : tie.Need-returns
 returns c = rw (c .enum-told .given .1)
 
--- src/state.rt:74:1
 returns-2 : tie.Need-returns-2
 returns-2 c = rw (c .before .enum-told2 .given .1) (c .stopped .ensures)
 
--- src/state.rt:74:1
 returns-3 : tie.Need-returns-3
 returns-3 c = rw (c .before .enum-told3 .given .1) (c .stopped2 .ensures)
 
--- src/state.rt:74:1
 returns-4 : tie.Need-returns-4
 returns-4 c = rw (c .before .enum-told4 .given .1) (c .stopped3 .ensures)
 
--- src/state.rt:74:1
 returns-5 : tie.Need-returns-5
 returns-5 c = rw (c .before .enum-told5 .given .1) (c .stopped4 .ensures)
 

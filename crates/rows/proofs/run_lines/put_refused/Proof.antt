@@ -3,10 +3,6 @@ use Rattle.rows.specs.AnswerLine.{refusedLine}
 use borrow.Author.Needs.{needs}
 use Rattle.rows.proofs.run_lines.put_refused.Statement.{statement}
 use Rattle.rows.proofs.run_lines.put_refused.Tie as tie
-use Rattle.rows.proofs.run_lines.put_refused.Reads as reads
-use Rattle.rows.proofs.run_lines.put_refused.Lts as lts
-use Rattle.rows.proofs.run_lines.put_refusal.Reads as put-refusal-reads
-use Rattle.words.proofs.refusals.number_and_place.Reads as number-and-place-reads
 
 number-and-place-requires : tie.Need-number-and-place-requires
 number-and-place-requires c κs = search needs

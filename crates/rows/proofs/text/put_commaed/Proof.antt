@@ -2,13 +2,13 @@
 -- buffer's front. Assumes nothing.
 use Prim.Native.Nat.{ℕ, _+_, _-_, _≤_, _<_}
 use mathlib.Core.Path.{_≡_, refl}
-use mathlib.Core.List.{List, _++_}
+use mathlib.Core.List.{_++_}
 use native.Mathlib.Omega.{arith}
 use lib.ListN.{length, take, getD}
 use lib.Seq.{take-all}
 use denote.Ref.{now}
 use borrow.Author.Needs.{needs}
-use Rattle.rules.specs.Bytes.{comma, decimal}
+use Rattle.rules.specs.Bytes.{comma}
 use Rattle.rows.specs.Written.{Front, ended, commaed}
 use Rattle.rows.proofs.Texts.{goes-on, from-here, stands}
 use Rattle.rows.proofs.Lines.{length-ended, length-step, commaed-on, within}

@@ -3,23 +3,16 @@ use Rattle.run_machine.proofs.CallingLaws.{plain-call, word-call, wrong
 use borrow.Author.Needs.{needs}
 use Rattle.run_machine.proofs.calling.called.Statement.{statement}
 use Rattle.run_machine.proofs.calling.called.Tie as tie
-use Rattle.run_machine.proofs.calling.called.Reads as reads
-use Rattle.run_machine.proofs.calling.called.Lts as lts
-use Rattle.run_machine.proofs.state.stopped.Reads as stopped-reads
 
--- src/calling.rt:22:9
 returns : tie.Need-returns
 returns c = plain-call (c .before .args .held) (c .before .args .count) (c .if1 .taken)
 
--- src/calling.rt:28:9
 returns-2 : tie.Need-returns-2
 returns-2 c = word-call (c .before .before .args .held) (c .before .before .args .count) (c .if2 .taken)
 
--- src/calling.rt:33:5
 stopped-requires : tie.Need-stopped-requires
 stopped-requires c κs = search needs
 
--- src/calling.rt:18:1
 returns-3 : tie.Need-returns-3
 returns-3 c = wrong-call (c .before .before .before .args .held) (c .before .before .before .args .count) _ _ (c .before .before .if1 .left) (c .before .if2 .left) (c .stopped .ensures)
 

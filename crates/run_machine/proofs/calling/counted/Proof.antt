@@ -7,68 +7,49 @@ use mathlib.Core.Path.{refl}
 use borrow.Author.Needs.{needs}
 use Rattle.run_machine.proofs.calling.counted.Statement.{statement}
 use Rattle.run_machine.proofs.calling.counted.Tie as tie
-use Rattle.run_machine.proofs.calling.counted.Reads as reads
-use Rattle.run_machine.proofs.calling.counted.Lts as lts
-use Rattle.run_machine.proofs.calling.called.Reads as called-reads
-use Rattle.run_machine.proofs.state.stopped.Reads as stopped-reads
 
--- src/calling.rt:40:22
 enum-known-event : tie.Need-enum-known-event
 enum-known-event c = search needs
 
--- src/calling.rt:40:32
 called-requires : tie.Need-called-requires
 called-requires c κs = search needs
 
--- src/calling.rt:41:38
 enum-told : tie.Need-enum-told
 enum-told c = search needs
 
--- src/calling.rt:41:24
 stopped-requires : tie.Need-stopped-requires
 stopped-requires c κs = search needs
 
--- src/calling.rt:42:41
 enum-told-2 : tie.Need-enum-told-2
 enum-told-2 c = search needs
 
--- src/calling.rt:42:27
 stopped-requires-2 : tie.Need-stopped-requires-2
 stopped-requires-2 c κs = search needs
 
--- src/calling.rt:43:37
 enum-told-3 : tie.Need-enum-told-3
 enum-told-3 c = search needs
 
--- src/calling.rt:43:23
 stopped-requires-3 : tie.Need-stopped-requires-3
 stopped-requires-3 c κs = search needs
 
--- src/calling.rt:44:40
 enum-told-4 : tie.Need-enum-told-4
 enum-told-4 c = search needs
 
--- src/calling.rt:44:26
 stopped-requires-4 : tie.Need-stopped-requires-4
 stopped-requires-4 c κs = search needs
 
--- src/calling.rt:36:1
 returns : tie.Need-returns
 returns c = at-event Stage.Counting (c .before .before .before .before .before .before .args .held) (c .before .before .before .before .before .before .args .event) _ (now (c .before .before .before .before .before .before .args .buf)) (now (c .before .before .before .before .before .before .args .out)) (now (c .before .before .before .before .before .before .args .out)) _ (c .before .before .event .given .1) (count-steps (c .before .before .before .before .before .before .args .held) _ (now (c .before .before .before .before .before .before .args .buf)) (now (c .before .before .before .before .before .before .args .out)) (now (c .before .before .before .before .before .before .args .out)) _ (c .called .ensures))
 
--- src/calling.rt:36:1
 returns-2 : tie.Need-returns-2
 returns-2 c = stop-steps Stage.Counting (c .before .before .before .before .before .args .held) (c .before .before .before .before .before .args .event) _ (now (c .before .before .before .before .before .args .buf)) (now (c .before .before .before .before .before .args .out)) (now (c .before .before .before .before .before .args .out)) _ _ (c .stopped .ensures) (c .before .enum-told .given .1) refl
 
--- src/calling.rt:36:1
 returns-3 : tie.Need-returns-3
 returns-3 c = stop-steps Stage.Counting (c .before .before .before .before .before .args .held) (c .before .before .before .before .before .args .event) _ (now (c .before .before .before .before .before .args .buf)) (now (c .before .before .before .before .before .args .out)) (now (c .before .before .before .before .before .args .out)) _ _ (c .stopped2 .ensures) (c .before .enum-told2 .given .1) refl
 
--- src/calling.rt:36:1
 returns-4 : tie.Need-returns-4
 returns-4 c = stop-steps Stage.Counting (c .before .before .before .before .before .args .held) (c .before .before .before .before .before .args .event) _ (now (c .before .before .before .before .before .args .buf)) (now (c .before .before .before .before .before .args .out)) (now (c .before .before .before .before .before .args .out)) _ _ (c .stopped3 .ensures) (c .before .enum-told3 .given .1) refl
 
--- src/calling.rt:36:1
 returns-5 : tie.Need-returns-5
 returns-5 c = stop-steps Stage.Counting (c .before .before .before .before .before .args .held) (c .before .before .before .before .before .args .event) _ (now (c .before .before .before .before .before .args .buf)) (now (c .before .before .before .before .before .args .out)) (now (c .before .before .before .before .before .args .out)) _ _ (c .stopped4 .ensures) (c .before .enum-told4 .given .1) refl
 

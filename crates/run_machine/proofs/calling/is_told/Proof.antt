@@ -5,22 +5,16 @@ use mathlib.Core.Path.{refl}
 use borrow.Author.Needs.{needs}
 use Rattle.run_machine.proofs.calling.is_told.Statement.{statement}
 use Rattle.run_machine.proofs.calling.is_told.Tie as tie
-use Rattle.run_machine.proofs.calling.is_told.Reads as reads
-use Rattle.run_machine.proofs.calling.is_told.Lts as lts
 
--- src/calling.rt:53:9
 returns : tie.Need-returns
 returns c = word-short (now (c .before .args .word)) (c .before .args .size) (c .if1 .taken)
 
--- src/calling.rt:55:20
 shared-slice-read-result : tie.Need-shared-slice-read-result
 shared-slice-read-result c = search needs
 
--- src/calling.rt:55:40
 shared-slice-read-result-2 : tie.Need-shared-slice-read-result-2
 shared-slice-read-result-2 c = search needs
 
--- src/calling.rt:49:1
 returns-2 : tie.Need-returns-2
 returns-2 c = word-told (now (c .before .before .before .args .word)) (c .before .before .before .args .size) _ refl
 

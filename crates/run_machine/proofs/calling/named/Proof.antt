@@ -4,19 +4,13 @@ use borrow.Author.Tests.{not-true}
 use borrow.Author.Needs.{needs}
 use Rattle.run_machine.proofs.calling.named.Statement.{statement}
 use Rattle.run_machine.proofs.calling.named.Tie as tie
-use Rattle.run_machine.proofs.calling.named.Reads as reads
-use Rattle.run_machine.proofs.calling.named.Lts as lts
-use Rattle.run_machine.proofs.state.stopped.Reads as stopped-reads
 
--- src/calling.rt:60:9
 stopped-requires : tie.Need-stopped-requires
 stopped-requires c κs = search needs
 
--- src/calling.rt:60:9
 returns : tie.Need-returns
 returns c = untold-call (c .before .before .args .held) (c .before .before .args .told) _ _ (not-true _ (c .before .if1 .taken)) (c .stopped .ensures)
 
--- src/calling.rt:56:1
 returns-2 : tie.Need-returns-2
 returns-2 c = told-call (c .before .args .held) (c .before .args .told)
 

@@ -7,73 +7,52 @@ use mathlib.Core.Path.{refl}
 use borrow.Author.Needs.{needs}
 use Rattle.run_machine.proofs.calling.telling.Statement.{statement}
 use Rattle.run_machine.proofs.calling.telling.Tie as tie
-use Rattle.run_machine.proofs.calling.telling.Reads as reads
-use Rattle.run_machine.proofs.calling.telling.Lts as lts
-use Rattle.run_machine.proofs.calling.is_told.Reads as is-told-reads
-use Rattle.run_machine.proofs.calling.named.Reads as named-reads
-use Rattle.run_machine.proofs.state.stopped.Reads as stopped-reads
 
--- src/calling.rt:74:21
 enum-known-event : tie.Need-enum-known-event
 enum-known-event c = search needs
 
--- src/calling.rt:74:42
 is-told-requires : tie.Need-is-told-requires
 is-told-requires c κs = search needs
 
--- src/calling.rt:74:30
 named-requires : tie.Need-named-requires
 named-requires c κs = search needs
 
--- src/calling.rt:75:38
 enum-told : tie.Need-enum-told
 enum-told c = search needs
 
--- src/calling.rt:75:24
 stopped-requires : tie.Need-stopped-requires
 stopped-requires c κs = search needs
 
--- src/calling.rt:76:42
 enum-told-2 : tie.Need-enum-told-2
 enum-told-2 c = search needs
 
--- src/calling.rt:76:28
 stopped-requires-2 : tie.Need-stopped-requires-2
 stopped-requires-2 c κs = search needs
 
--- src/calling.rt:77:37
 enum-told-3 : tie.Need-enum-told-3
 enum-told-3 c = search needs
 
--- src/calling.rt:77:23
 stopped-requires-3 : tie.Need-stopped-requires-3
 stopped-requires-3 c κs = search needs
 
--- src/calling.rt:78:40
 enum-told-4 : tie.Need-enum-told-4
 enum-told-4 c = search needs
 
--- src/calling.rt:78:26
 stopped-requires-4 : tie.Need-stopped-requires-4
 stopped-requires-4 c κs = search needs
 
--- src/calling.rt:70:1
 returns : tie.Need-returns
 returns c = at-event Stage.Telling (c .before .before .before .before .before .before .before .args .held) (c .before .before .before .before .before .before .before .args .event) _ (now (c .before .before .before .before .before .before .before .args .buf)) (now (c .before .before .before .before .before .before .before .args .out)) (now (c .before .before .before .before .before .before .before .args .out)) _ (c .before .before .before .event .given .1) (tell-steps (c .before .before .before .before .before .before .before .args .held) _ _ (now (c .before .before .before .before .before .before .before .args .buf)) (now (c .before .before .before .before .before .before .before .args .out)) (now (c .before .before .before .before .before .before .before .args .out)) _ (c .before .is-told .ensures) (c .named .ensures))
 
--- src/calling.rt:70:1
 returns-2 : tie.Need-returns-2
 returns-2 c = stop-steps Stage.Telling (c .before .before .before .before .before .args .held) (c .before .before .before .before .before .args .event) _ (now (c .before .before .before .before .before .args .buf)) (now (c .before .before .before .before .before .args .out)) (now (c .before .before .before .before .before .args .out)) _ _ (c .stopped .ensures) (c .before .enum-told .given .1) refl
 
--- src/calling.rt:70:1
 returns-3 : tie.Need-returns-3
 returns-3 c = stop-steps Stage.Telling (c .before .before .before .before .before .args .held) (c .before .before .before .before .before .args .event) _ (now (c .before .before .before .before .before .args .buf)) (now (c .before .before .before .before .before .args .out)) (now (c .before .before .before .before .before .args .out)) _ _ (c .stopped2 .ensures) (c .before .enum-told2 .given .1) refl
 
--- src/calling.rt:70:1
 returns-4 : tie.Need-returns-4
 returns-4 c = stop-steps Stage.Telling (c .before .before .before .before .before .args .held) (c .before .before .before .before .before .args .event) _ (now (c .before .before .before .before .before .args .buf)) (now (c .before .before .before .before .before .args .out)) (now (c .before .before .before .before .before .args .out)) _ _ (c .stopped3 .ensures) (c .before .enum-told3 .given .1) refl
 
--- src/calling.rt:70:1
 returns-5 : tie.Need-returns-5
 returns-5 c = stop-steps Stage.Telling (c .before .before .before .before .before .args .held) (c .before .before .before .before .before .args .event) _ (now (c .before .before .before .before .before .args .buf)) (now (c .before .before .before .before .before .args .out)) (now (c .before .before .before .before .before .args .out)) _ _ (c .stopped4 .ensures) (c .before .enum-told4 .given .1) refl
 

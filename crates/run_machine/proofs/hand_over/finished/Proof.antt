@@ -6,37 +6,25 @@ use mathlib.Core.Path.{sym, ap, _∙_}
 use borrow.Author.Needs.{needs}
 use Rattle.run_machine.proofs.hand_over.finished.Statement.{statement}
 use Rattle.run_machine.proofs.hand_over.finished.Tie as tie
-use Rattle.run_machine.proofs.hand_over.finished.Reads as reads
-use Rattle.run_machine.proofs.hand_over.finished.Lts as lts
-use Rattle.run_machine.proofs.hand_over.is_over.Reads as is-over-reads
-use Rattle.run_machine.proofs.state.stopped.Reads as stopped-reads
-use Rattle.simulation.proofs.state.phase_of.Reads as phase-of-reads
 
--- src/hand_over.rt:53:17
 phase-of-requires : tie.Need-phase-of-requires
 phase-of-requires c κs = search needs
 
--- src/hand_over.rt:53:9
 is-over-requires : tie.Need-is-over-requires
 is-over-requires c κs = search needs
 
--- src/hand_over.rt:54:9
 stopped-requires : tie.Need-stopped-requires
 stopped-requires c κs = search needs
 
--- src/hand_over.rt:54:9
 returns : tie.Need-returns
 returns c = broken-stops (c .before .before .before .before .before .args .held) _ _ (ap isOver (sym (c .before .before .before .phase-of .ensures)) ∙ sym (c .before .before .is-over .ensures) ∙ not-true _ (c .before .if1 .taken)) (c .stopped .ensures)
 
--- src/hand_over.rt:57:9
 returns-2 : tie.Need-returns-2
 returns-2 c = complete-finishes (c .before .before .before .before .before .args .held) (ap isOver (sym (c .before .before .before .phase-of .ensures)) ∙ sym (c .before .before .is-over .ensures) ∙ not-false _ (c .before .if1 .left)) (c .if2 .taken)
 
--- src/hand_over.rt:62:5
 stopped-requires-2 : tie.Need-stopped-requires-2
 stopped-requires-2 c κs = search needs
 
--- src/hand_over.rt:49:1
 returns-3 : tie.Need-returns-3
 returns-3 c = unended-stops (c .before .before .before .before .before .before .args .held) _ _ (ap isOver (sym (c .before .before .before .before .phase-of .ensures)) ∙ sym (c .before .before .before .is-over .ensures) ∙ not-false _ (c .before .before .if1 .left)) (c .before .if2 .left) (c .stopped2 .ensures)
 

@@ -7,32 +7,22 @@ use mathlib.Core.Path.{refl}
 use borrow.Author.Needs.{needs}
 use Rattle.run_machine.proofs.hand_over.hand_over.Statement.{statement}
 use Rattle.run_machine.proofs.hand_over.hand_over.Tie as tie
-use Rattle.run_machine.proofs.hand_over.hand_over.Reads as reads
-use Rattle.run_machine.proofs.hand_over.hand_over.Lts as lts
-use Rattle.run_machine.proofs.state.stopped.Reads as stopped-reads
-use Rattle.simulation.proofs.advance.advance.Reads as advance-reads
 
--- src/hand_over.rt:20:9
 stopped-requires : tie.Need-stopped-requires
 stopped-requires c κs = search needs
 
--- src/hand_over.rt:20:9
 returns : tie.Need-returns
 returns c = handing-stops (c .before .before .before .before .args .held) (now (c .before .before .before .before .args .buf)) (now (c .before .before .before .before .args .out)) (now (c .before .before .before .before .args .out)) _ _ (c .before .if1 .taken) (c .stopped .ensures)
 
--- src/hand_over.rt:22:41
 slice-aggregate-advance : tie.Need-slice-aggregate-advance
 slice-aggregate-advance c = simp length-take (omega arith)
 
--- src/hand_over.rt:22:9
 advance-requires : tie.Need-advance-requires
 advance-requires c κs = search needs
 
--- src/hand_over.rt:15:1
 same-length : tie.Need-same-length
 same-length c = search needs
 
--- src/hand_over.rt:15:1
 returns-2 : tie.Need-returns-2
 returns-2 c = call-hands (c .before .before .before .before .before .before .before .before .before .args .held) (now (c .before .before .before .before .before .before .before .before .before .args .buf)) _ (now (c .before .before .before .before .before .before .before .before .before .args .out)) (c .before .before .before .advance .result) _ refl (c .before .before .before .advance .ensures)
 

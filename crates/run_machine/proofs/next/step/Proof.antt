@@ -9,146 +9,103 @@ use mathlib.Core.Path.{refl, sym, subst}
 use borrow.Author.Needs.{needs}
 use Rattle.run_machine.proofs.next.step.Statement.{statement}
 use Rattle.run_machine.proofs.next.step.Tie as tie
-use Rattle.run_machine.proofs.next.step.Reads as reads
-use Rattle.run_machine.proofs.next.step.Lts as lts
-use Rattle.run_machine.proofs.calling.counted.Reads as counted-reads
-use Rattle.run_machine.proofs.calling.judged.Reads as judged-reads
-use Rattle.run_machine.proofs.calling.telling.Reads as telling-reads
-use Rattle.run_machine.proofs.second_pass.second_read.Reads as second-read-reads
-use Rattle.run_machine.proofs.seconds.seconds_asked.Reads as seconds-asked-reads
-use Rattle.run_machine.proofs.state.moved.Reads as moved-reads
-use Rattle.run_machine.proofs.state.stopped.Reads as stopped-reads
-use Rattle.run_machine.proofs.writing.written.Reads as written-reads
 
--- src/next.rt:55:54
 enum-told : tie.Need-enum-told
 enum-told c = search needs
 
--- src/next.rt:55:28
 counted-requires : tie.Need-counted-requires
 counted-requires c κs = search needs
 
--- src/next.rt:56:53
 enum-told-2 : tie.Need-enum-told-2
 enum-told-2 c = search needs
 
--- src/next.rt:56:27
 telling-requires : tie.Need-telling-requires
 telling-requires c κs = search needs
 
--- src/next.rt:57:52
 enum-told-3 : tie.Need-enum-told-3
 enum-told-3 c = search needs
 
--- src/next.rt:57:27
 judged-requires : tie.Need-judged-requires
 judged-requires c κs = search needs
 
--- src/next.rt:58:62
 enum-told-4 : tie.Need-enum-told-4
 enum-told-4 c = search needs
 
--- src/next.rt:58:30
 seconds-asked-requires : tie.Need-seconds-asked-requires
 seconds-asked-requires c κs = search needs
 
--- src/next.rt:59:51
 enum-told-5 : tie.Need-enum-told-5
 enum-told-5 c = search needs
 
--- src/next.rt:59:32
 moved-requires : tie.Need-moved-requires
 moved-requires c κs = search needs
 
--- src/next.rt:60:60
 enum-told-6 : tie.Need-enum-told-6
 enum-told-6 c = search needs
 
--- src/next.rt:60:30
 second-read-requires : tie.Need-second-read-requires
 second-read-requires c κs = search needs
 
--- src/next.rt:61:22
 enum-known-stage : tie.Need-enum-known-stage
 enum-known-stage c = search needs
 
--- src/next.rt:61:38
 written-requires : tie.Need-written-requires
 written-requires c κs = search needs
 
--- src/next.rt:62:26
 enum-known-stage-2 : tie.Need-enum-known-stage-2
 enum-known-stage-2 c = search needs
 
--- src/next.rt:62:38
 moved-requires-2 : tie.Need-moved-requires-2
 moved-requires-2 c κs = search needs
 
--- src/next.rt:68:41
 enum-told-7 : tie.Need-enum-told-7
 enum-told-7 c = search needs
 
--- src/next.rt:68:27
 stopped-requires : tie.Need-stopped-requires
 stopped-requires c κs = search needs
 
--- src/next.rt:49:1
 same-length : tie.Need-same-length
 same-length c = search needs
 
--- src/next.rt:49:1
 returns : tie.Need-returns
 returns c = at-stage _ _ (c .before .before .before .before .before .before .before .before .before .args .machine .held) (c .before .before .before .before .before .before .before .before .before .args .event) (now (c .before .before .before .before .before .before .before .before .before .args .buf)) (now (c .before .before .before .before .before .before .before .before .before .args .out)) _ _ (c .before .before .before .before .enum-told .given .1) (c .before .before .counted .ensures)
 
--- src/next.rt:49:1
 same-length-2 : tie.Need-same-length-2
 same-length-2 c = search needs
 
--- src/next.rt:49:1
 returns-2 : tie.Need-returns-2
 returns-2 c = at-stage _ _ (c .before .before .before .before .before .before .before .before .before .args .machine .held) (c .before .before .before .before .before .before .before .before .before .args .event) (now (c .before .before .before .before .before .before .before .before .before .args .buf)) (now (c .before .before .before .before .before .before .before .before .before .args .out)) _ _ (c .before .before .before .before .enum-told2 .given .1) (c .before .before .telling .ensures)
 
--- src/next.rt:49:1
 same-length-3 : tie.Need-same-length-3
 same-length-3 c = search needs
 
--- src/next.rt:49:1
 returns-3 : tie.Need-returns-3
 returns-3 c = at-stage _ _ (c .before .before .before .before .before .before .before .before .before .args .machine .held) (c .before .before .before .before .before .before .before .before .before .args .event) (now (c .before .before .before .before .before .before .before .before .before .args .buf)) (now (c .before .before .before .before .before .before .before .before .before .args .out)) _ _ (c .before .before .before .before .enum-told3 .given .1) (c .before .before .judged .ensures)
 
--- src/next.rt:49:1
 same-length-4 : tie.Need-same-length-4
 same-length-4 c = search needs
 
--- src/next.rt:49:1
 returns-4 : tie.Need-returns-4
 returns-4 c = at-stage _ _ (c .before .before .before .before .before .before .before .before .before .args .machine .held) (c .before .before .before .before .before .before .before .before .before .args .event) (now (c .before .before .before .before .before .before .before .before .before .args .buf)) (now (c .before .before .before .before .before .before .before .before .before .args .out)) _ _ (c .before .before .before .before .enum-told4 .given .1) (c .before .before .seconds-asked .ensures)
 
--- src/next.rt:49:1
 returns-5 : tie.Need-returns-5
 returns-5 c = at-stage _ _ (c .before .before .before .before .before .before .args .machine .held) (c .before .before .before .before .before .before .args .event) (now (c .before .before .before .before .before .before .args .buf)) (now (c .before .before .before .before .before .before .args .out)) _ _ (c .before .enum-told5 .given .1) (subst (λ (m : Machine). StepsFrom Stage.ToSecondPass (c .before .before .before .before .before .before .args .machine .held) (c .before .before .before .before .before .before .args .event) (now (c .before .before .before .before .before .before .args .buf)) (now (c .before .before .before .before .before .before .args .out)) m (now (c .before .before .before .before .before .before .args .out))) (sym (c .moved .ensures)) (to-second-pass (c .before .before .before .before .before .before .args .machine .held) (c .before .before .before .before .before .before .args .event) (now (c .before .before .before .before .before .before .args .buf)) (now (c .before .before .before .before .before .before .args .out))))
 
--- src/next.rt:49:1
 same-length-5 : tie.Need-same-length-5
 same-length-5 c = search needs
 
--- src/next.rt:49:1
 returns-6 : tie.Need-returns-6
 returns-6 c = at-stage _ _ (c .before .before .before .before .before .before .before .before .before .args .machine .held) (c .before .before .before .before .before .before .before .before .before .args .event) (now (c .before .before .before .before .before .before .before .before .before .args .buf)) (now (c .before .before .before .before .before .before .before .before .before .args .out)) _ _ (c .before .before .before .before .enum-told6 .given .1) (c .before .before .second-read .ensures)
 
--- src/next.rt:49:1
 same-length-6 : tie.Need-same-length-6
 same-length-6 c = search needs
 
--- src/next.rt:49:1
 returns-7 : tie.Need-returns-7
 returns-7 c = at-stage _ _ (c .before .before .before .before .before .before .before .before .before .before .args .machine .held) (c .before .before .before .before .before .before .before .before .before .before .args .event) (now (c .before .before .before .before .before .before .before .before .before .before .args .buf)) (now (c .before .before .before .before .before .before .before .before .before .before .args .out)) _ _ (c .before .before .before .before .before .stage .given .1) (c .before .before .written .ensures)
 
--- src/next.rt:49:1
 returns-8 : tie.Need-returns-8
 returns-8 c = at-stage _ _ (c .before .before .before .before .before .before .before .args .machine .held) (c .before .before .before .before .before .before .before .args .event) (now (c .before .before .before .before .before .before .before .args .buf)) (now (c .before .before .before .before .before .before .before .args .out)) _ _ (c .before .before .stage2 .given .1) (subst (λ (m : Machine). StepsFrom (Stage.Answer (c .before .before .stage2 .given .0 .0) (c .before .before .stage2 .given .0 .1 .0)) (c .before .before .before .before .before .before .before .args .machine .held) (c .before .before .before .before .before .before .before .args .event) (now (c .before .before .before .before .before .before .before .args .buf)) (now (c .before .before .before .before .before .before .before .args .out)) m (now (c .before .before .before .before .before .before .before .args .out))) (sym (c .moved2 .ensures)) (answer-steps (c .before .before .before .before .before .before .before .args .machine .held) (c .before .before .stage2 .given .0 .0) (c .before .before .stage2 .given .0 .1 .0) (c .before .before .before .before .before .before .before .args .event) (now (c .before .before .before .before .before .before .before .args .buf)) (now (c .before .before .before .before .before .before .before .args .out))))
 
--- src/next.rt:49:1
 returns-9 : tie.Need-returns-9
 returns-9 c = at-stage _ _ (c .before .before .before .before .before .before .args .machine .held) (c .before .before .before .before .before .before .args .event) (now (c .before .before .before .before .before .before .args .buf)) (now (c .before .before .before .before .before .before .args .out)) (now (c .before .before .before .before .before .before .args .out)) _ (c .before .enum-told7 .given .1) (stop-steps _ (c .before .before .before .before .before .before .args .machine .held) (c .before .before .before .before .before .before .args .event) (c .before .before .before .before .before .before .args .event) (now (c .before .before .before .before .before .before .args .buf)) (now (c .before .before .before .before .before .before .args .out)) (now (c .before .before .before .before .before .before .args .out)) _ _ (c .stopped .ensures) refl refl)
 

@@ -4,38 +4,25 @@ use denote.Ref.{now}
 use borrow.Author.Needs.{needs}
 use Rattle.run_machine.proofs.second_pass.second_chunk.Statement.{statement}
 use Rattle.run_machine.proofs.second_pass.second_chunk.Tie as tie
-use Rattle.run_machine.proofs.second_pass.second_chunk.Reads as reads
-use Rattle.run_machine.proofs.second_pass.second_chunk.Lts as lts
-use Rattle.intake.proofs.tally.tallied.Reads as tallied-reads
-use Rattle.run_machine.proofs.hand_over.hand_over.Reads as hand-over-reads
-use Rattle.run_machine.proofs.second_pass.first_tally.Reads as first-tally-reads
-use Rattle.run_machine.proofs.state.stopped.Reads as stopped-reads
 
--- src/second_pass.rt:29:9
 tallied-requires : tie.Need-tallied-requires
 tallied-requires c κs = search needs
 
--- src/second_pass.rt:30:9
 first-tally-requires : tie.Need-first-tally-requires
 first-tally-requires c κs = search needs
 
--- src/second_pass.rt:32:9
 stopped-requires : tie.Need-stopped-requires
 stopped-requires c κs = search needs
 
--- src/second_pass.rt:32:9
 returns : tie.Need-returns
 returns c = entering-stops (c .before .before .before .before .before .before .before .before .before .args .held) (c .before .before .before .before .before .before .before .before .before .args .size) (now (c .before .before .before .before .before .before .before .before .before .args .chunk)) (now (c .before .before .before .before .before .before .before .before .before .args .buf)) (now (c .before .before .before .before .before .before .before .before .before .args .out)) (now (c .before .before .before .before .before .before .before .before .before .args .out)) (c .before .before .before .before .first-tally .result) (c .before .before .before .before .before .tallied .result) _ _ (c .before .before .before .before .first-tally .ensures) (c .before .before .before .before .before .tallied .ensures) (c .before .if1 .taken) (c .stopped .ensures)
 
--- src/second_pass.rt:39:5
 hand-over-requires : tie.Need-hand-over-requires
 hand-over-requires c κs = search needs
 
--- src/second_pass.rt:26:1
 same-length : tie.Need-same-length
 same-length c = search needs
 
--- src/second_pass.rt:26:1
 returns-2 : tie.Need-returns-2
 returns-2 c = second-enters (c .before .before .before .before .before .before .before .before .before .before .before .before .args .held) (c .before .before .before .before .before .before .before .before .before .before .before .before .args .size) (now (c .before .before .before .before .before .before .before .before .before .before .before .before .args .chunk)) (now (c .before .before .before .before .before .before .before .before .before .before .before .before .args .buf)) (now (c .before .before .before .before .before .before .before .before .before .before .before .before .args .out)) _ (c .before .before .before .before .before .before .before .before .tallied .result) _ (c .before .before .before .before .before .before .before .before .tallied .ensures) (c .before .before .hand-over .ensures)
 

@@ -9,89 +9,64 @@ use mathlib.Core.Path.{refl}
 use borrow.Author.Needs.{needs}
 use Rattle.run_machine.proofs.second_pass.second_read.Statement.{statement}
 use Rattle.run_machine.proofs.second_pass.second_read.Tie as tie
-use Rattle.run_machine.proofs.second_pass.second_read.Reads as reads
-use Rattle.run_machine.proofs.second_pass.second_read.Lts as lts
-use Rattle.run_machine.proofs.second_pass.second_chunk.Reads as second-chunk-reads
-use Rattle.run_machine.proofs.second_pass.second_end.Reads as second-end-reads
-use Rattle.run_machine.proofs.state.stopped.Reads as stopped-reads
 
--- src/second_pass.rt:60:21
 enum-known-event : tie.Need-enum-known-event
 enum-known-event c = search needs
 
--- src/second_pass.rt:62:17
 stopped-requires : tie.Need-stopped-requires
 stopped-requires c κs = search needs
 
--- src/second_pass.rt:62:17
 returns : tie.Need-returns
 returns c = short-read (c .before .before .before .before .before .before .before .args .held) (c .before .before .before .before .before .before .before .args .event) _ (now (c .before .before .before .before .before .before .before .args .buf)) (now (c .before .before .before .before .before .before .before .args .out)) (now (c .before .before .before .before .before .before .before .args .out)) _ _ (c .stopped .ensures) (c .before .before .before .event .given .1) (c .before .if1 .taken)
 
--- src/second_pass.rt:64:38
 slice-aggregate-second-chunk : tie.Need-slice-aggregate-second-chunk
 slice-aggregate-second-chunk c = simp length-take (omega arith)
 
--- src/second_pass.rt:64:13
 second-chunk-requires : tie.Need-second-chunk-requires
 second-chunk-requires c κs = search needs
 
--- src/second_pass.rt:66:45
 enum-told : tie.Need-enum-told
 enum-told c = search needs
 
--- src/second_pass.rt:66:23
 second-end-requires : tie.Need-second-end-requires
 second-end-requires c κs = search needs
 
--- src/second_pass.rt:67:38
 enum-told-2 : tie.Need-enum-told-2
 enum-told-2 c = search needs
 
--- src/second_pass.rt:67:24
 stopped-requires-2 : tie.Need-stopped-requires-2
 stopped-requires-2 c κs = search needs
 
--- src/second_pass.rt:68:42
 enum-told-3 : tie.Need-enum-told-3
 enum-told-3 c = search needs
 
--- src/second_pass.rt:68:28
 stopped-requires-3 : tie.Need-stopped-requires-3
 stopped-requires-3 c κs = search needs
 
--- src/second_pass.rt:69:40
 enum-told-4 : tie.Need-enum-told-4
 enum-told-4 c = search needs
 
--- src/second_pass.rt:69:26
 stopped-requires-4 : tie.Need-stopped-requires-4
 stopped-requires-4 c κs = search needs
 
--- src/second_pass.rt:56:1
 same-length : tie.Need-same-length
 same-length c = search needs
 
--- src/second_pass.rt:56:1
 returns-2 : tie.Need-returns-2
 returns-2 c = at-event Stage.SecondPass (c .before .before .before .before .before .before .before .before .before .before .before .args .held) (c .before .before .before .before .before .before .before .before .before .before .before .args .event) _ (now (c .before .before .before .before .before .before .before .before .before .before .before .args .buf)) (now (c .before .before .before .before .before .before .before .before .before .before .before .args .out)) _ _ (c .before .before .before .before .before .before .before .event .given .1) (second-read-steps (c .before .before .before .before .before .before .before .before .before .before .before .args .held) _ (now (c .before .before .before .before .before .before .before .before .before .before .before .args .buf)) _ (now (c .before .before .before .before .before .before .before .before .before .before .before .args .out)) _ _ refl (c .before .before .second-chunk .ensures))
 
--- src/second_pass.rt:56:1
 same-length-2 : tie.Need-same-length-2
 same-length-2 c = search needs
 
--- src/second_pass.rt:56:1
 returns-3 : tie.Need-returns-3
 returns-3 c = at-event Stage.SecondPass (c .before .before .before .before .before .before .before .before .args .held) (c .before .before .before .before .before .before .before .before .args .event) _ (now (c .before .before .before .before .before .before .before .before .args .buf)) (now (c .before .before .before .before .before .before .before .before .args .out)) _ _ (c .before .before .before .before .enum-told .given .1) (second-end-steps (c .before .before .before .before .before .before .before .before .args .held) (now (c .before .before .before .before .before .before .before .before .args .buf)) (now (c .before .before .before .before .before .before .before .before .args .out)) _ _ (c .before .before .second-end .ensures))
 
--- src/second_pass.rt:56:1
 returns-4 : tie.Need-returns-4
 returns-4 c = stop-steps Stage.SecondPass (c .before .before .before .before .before .args .held) (c .before .before .before .before .before .args .event) _ (now (c .before .before .before .before .before .args .buf)) (now (c .before .before .before .before .before .args .out)) (now (c .before .before .before .before .before .args .out)) _ _ (c .stopped2 .ensures) (c .before .enum-told2 .given .1) refl
 
--- src/second_pass.rt:56:1
 returns-5 : tie.Need-returns-5
 returns-5 c = stop-steps Stage.SecondPass (c .before .before .before .before .before .args .held) (c .before .before .before .before .before .args .event) _ (now (c .before .before .before .before .before .args .buf)) (now (c .before .before .before .before .before .args .out)) (now (c .before .before .before .before .before .args .out)) _ _ (c .stopped3 .ensures) (c .before .enum-told3 .given .1) refl
 
--- src/second_pass.rt:56:1
 returns-6 : tie.Need-returns-6
 returns-6 c = stop-steps Stage.SecondPass (c .before .before .before .before .before .args .held) (c .before .before .before .before .before .args .event) _ (now (c .before .before .before .before .before .args .buf)) (now (c .before .before .before .before .before .args .out)) (now (c .before .before .before .before .before .args .out)) _ _ (c .stopped4 .ensures) (c .before .enum-told4 .given .1) refl
 

@@ -4,40 +4,28 @@ use denote.Ref.{now}
 use borrow.Author.Needs.{needs}
 use Rattle.run_machine.proofs.seconds.refused.Statement.{statement}
 use Rattle.run_machine.proofs.seconds.refused.Tie as tie
-use Rattle.run_machine.proofs.seconds.refused.Reads as reads
-use Rattle.run_machine.proofs.seconds.refused.Lts as lts
-use Rattle.rows.proofs.run_lines.put_refused.Reads as put-refused-reads
-use Rattle.run_machine.proofs.state.stopped.Reads as stopped-reads
 
--- src/seconds.rt:22:9
 put-refused-requires : tie.Need-put-refused-requires
 put-refused-requires c κs = search needs
 
--- src/seconds.rt:24:22
 enum-known-put : tie.Need-enum-known-put
 enum-known-put c = search needs
 
--- src/seconds.rt:28:46
 enum-told : tie.Need-enum-told
 enum-told c = search needs
 
--- src/seconds.rt:28:32
 stopped-requires : tie.Need-stopped-requires
 stopped-requires c κs = search needs
 
--- src/seconds.rt:19:1
 same-length : tie.Need-same-length
 same-length c = search needs
 
--- src/seconds.rt:19:1
 returns : tie.Need-returns
 returns c = refusal-put (c .before .before .before .before .before .before .before .before .args .held) (c .before .before .before .before .before .before .before .before .args .refusal) (now (c .before .before .before .before .before .before .before .before .args .out)) _ _ _ (c .before .put .given .1) (c .before .before .before .before .before .put-refused .ensures)
 
--- src/seconds.rt:19:1
 same-length-2 : tie.Need-same-length-2
 same-length-2 c = search needs
 
--- src/seconds.rt:19:1
 returns-2 : tie.Need-returns-2
 returns-2 c = refusal-stop (c .before .before .before .before .before .before .before .before .args .held) (c .before .before .before .before .before .before .before .before .args .refusal) (now (c .before .before .before .before .before .before .before .before .args .out)) _ _ _ _ _ (c .before .enum-told .given .1) (c .before .before .before .before .before .put-refused .ensures) (c .stopped .ensures)
 

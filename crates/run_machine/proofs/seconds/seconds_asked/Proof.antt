@@ -9,84 +9,61 @@ use mathlib.Core.Path.{refl}
 use borrow.Author.Needs.{needs}
 use Rattle.run_machine.proofs.seconds.seconds_asked.Statement.{statement}
 use Rattle.run_machine.proofs.seconds.seconds_asked.Tie as tie
-use Rattle.run_machine.proofs.seconds.seconds_asked.Reads as reads
-use Rattle.run_machine.proofs.seconds.seconds_asked.Lts as lts
-use Rattle.run_machine.proofs.seconds.begun.Reads as begun-reads
-use Rattle.run_machine.proofs.state.stopped.Reads as stopped-reads
 
--- src/seconds.rt:55:21
 enum-known-event : tie.Need-enum-known-event
 enum-known-event c = search needs
 
--- src/seconds.rt:57:17
 stopped-requires : tie.Need-stopped-requires
 stopped-requires c κs = search needs
 
--- src/seconds.rt:57:17
 returns : tie.Need-returns
 returns c = short-argument (c .before .before .before .before .before .before .before .args .held) (c .before .before .before .before .before .before .before .args .event) _ (now (c .before .before .before .before .before .before .before .args .buf)) (now (c .before .before .before .before .before .before .before .args .out)) (now (c .before .before .before .before .before .before .before .args .out)) _ _ (c .stopped .ensures) (c .before .before .before .event .given .1) (c .before .if1 .taken)
 
--- src/seconds.rt:59:25
 slice-aggregate-begun : tie.Need-slice-aggregate-begun
 slice-aggregate-begun c = simp length-take (omega arith)
 
--- src/seconds.rt:59:13
 begun-requires : tie.Need-begun-requires
 begun-requires c κs = search needs
 
--- src/seconds.rt:61:38
 enum-told : tie.Need-enum-told
 enum-told c = search needs
 
--- src/seconds.rt:61:24
 stopped-requires-2 : tie.Need-stopped-requires-2
 stopped-requires-2 c κs = search needs
 
--- src/seconds.rt:62:42
 enum-told-2 : tie.Need-enum-told-2
 enum-told-2 c = search needs
 
--- src/seconds.rt:62:28
 stopped-requires-3 : tie.Need-stopped-requires-3
 stopped-requires-3 c κs = search needs
 
--- src/seconds.rt:63:37
 enum-told-3 : tie.Need-enum-told-3
 enum-told-3 c = search needs
 
--- src/seconds.rt:63:23
 stopped-requires-4 : tie.Need-stopped-requires-4
 stopped-requires-4 c κs = search needs
 
--- src/seconds.rt:64:40
 enum-told-4 : tie.Need-enum-told-4
 enum-told-4 c = search needs
 
--- src/seconds.rt:64:26
 stopped-requires-5 : tie.Need-stopped-requires-5
 stopped-requires-5 c κs = search needs
 
--- src/seconds.rt:51:1
 same-length : tie.Need-same-length
 same-length c = search needs
 
--- src/seconds.rt:51:1
 returns-2 : tie.Need-returns-2
 returns-2 c = at-event Stage.AskSeconds (c .before .before .before .before .before .before .before .before .before .before .before .args .held) (c .before .before .before .before .before .before .before .before .before .before .before .args .event) _ (now (c .before .before .before .before .before .before .before .before .before .before .before .args .buf)) (now (c .before .before .before .before .before .before .before .before .before .before .before .args .out)) _ _ (c .before .before .before .before .before .before .before .event .given .1) (asked-steps (c .before .before .before .before .before .before .before .before .before .before .before .args .held) _ (now (c .before .before .before .before .before .before .before .before .before .before .before .args .buf)) _ (now (c .before .before .before .before .before .before .before .before .before .before .before .args .out)) _ _ refl (c .before .before .begun .ensures))
 
--- src/seconds.rt:51:1
 returns-3 : tie.Need-returns-3
 returns-3 c = stop-steps Stage.AskSeconds (c .before .before .before .before .before .args .held) (c .before .before .before .before .before .args .event) _ (now (c .before .before .before .before .before .args .buf)) (now (c .before .before .before .before .before .args .out)) (now (c .before .before .before .before .before .args .out)) _ _ (c .stopped2 .ensures) (c .before .enum-told .given .1) refl
 
--- src/seconds.rt:51:1
 returns-4 : tie.Need-returns-4
 returns-4 c = stop-steps Stage.AskSeconds (c .before .before .before .before .before .args .held) (c .before .before .before .before .before .args .event) _ (now (c .before .before .before .before .before .args .buf)) (now (c .before .before .before .before .before .args .out)) (now (c .before .before .before .before .before .args .out)) _ _ (c .stopped3 .ensures) (c .before .enum-told2 .given .1) refl
 
--- src/seconds.rt:51:1
 returns-5 : tie.Need-returns-5
 returns-5 c = stop-steps Stage.AskSeconds (c .before .before .before .before .before .args .held) (c .before .before .before .before .before .args .event) _ (now (c .before .before .before .before .before .args .buf)) (now (c .before .before .before .before .before .args .out)) (now (c .before .before .before .before .before .args .out)) _ _ (c .stopped4 .ensures) (c .before .enum-told3 .given .1) refl
 
--- src/seconds.rt:51:1
 returns-6 : tie.Need-returns-6
 returns-6 c = stop-steps Stage.AskSeconds (c .before .before .before .before .before .args .held) (c .before .before .before .before .before .args .event) _ (now (c .before .before .before .before .before .args .buf)) (now (c .before .before .before .before .before .args .out)) (now (c .before .before .before .before .before .args .out)) _ _ (c .stopped5 .ensures) (c .before .enum-told4 .given .1) refl
 

@@ -4,57 +4,40 @@ use denote.Ref.{now}
 use borrow.Author.Needs.{needs}
 use Rattle.run_machine.proofs.writing.write_done.Statement.{statement}
 use Rattle.run_machine.proofs.writing.write_done.Tie as tie
-use Rattle.run_machine.proofs.writing.write_done.Reads as reads
-use Rattle.run_machine.proofs.writing.write_done.Lts as lts
-use Rattle.run_machine.proofs.hand_over.finished.Reads as finished-reads
-use Rattle.run_machine.proofs.hand_over.hand_over.Reads as hand-over-reads
-use Rattle.run_machine.proofs.state.stopped.Reads as stopped-reads
 
--- src/writing.rt:19:41
 enum-told : tie.Need-enum-told
 enum-told c = search needs
 
--- src/writing.rt:19:27
 stopped-requires : tie.Need-stopped-requires
 stopped-requires c κs = search needs
 
--- src/writing.rt:21:20
 enum-told-2 : tie.Need-enum-told-2
 enum-told-2 c = search needs
 
--- src/writing.rt:24:45
 enum-told-3 : tie.Need-enum-told-3
 enum-told-3 c = search needs
 
--- src/writing.rt:24:24
 hand-over-requires : tie.Need-hand-over-requires
 hand-over-requires c κs = search needs
 
--- src/writing.rt:25:27
 enum-told-4 : tie.Need-enum-told-4
 enum-told-4 c = search needs
 
--- src/writing.rt:25:27
 finished-requires : tie.Need-finished-requires
 finished-requires c κs = search needs
 
--- src/writing.rt:15:1
 returns : tie.Need-returns
 returns c = writing-stops (c .before .before .before .before .before .args .held) (c .before .before .before .before .before .args .wants) (now (c .before .before .before .before .before .args .buf)) (now (c .before .before .before .before .before .args .out)) (now (c .before .before .before .before .before .args .out)) _ _ (c .before .enum-told .given .1) (c .stopped .ensures)
 
--- src/writing.rt:15:1
 returns-2 : tie.Need-returns-2
 returns-2 c = input-goes (c .before .before .before .before .args .held) (c .before .before .before .before .args .wants) (now (c .before .before .before .before .args .buf)) (now (c .before .before .before .before .args .out)) (now (c .before .before .before .before .args .out)) (c .enum-told2 .given .1)
 
--- src/writing.rt:15:1
 same-length : tie.Need-same-length
 same-length c = search needs
 
--- src/writing.rt:15:1
 returns-3 : tie.Need-returns-3
 returns-3 c = room-goes (c .before .before .before .before .before .before .before .before .args .held) (c .before .before .before .before .before .before .before .before .args .wants) (now (c .before .before .before .before .before .before .before .before .args .buf)) (now (c .before .before .before .before .before .before .before .before .args .out)) _ _ (c .before .before .before .before .enum-told3 .given .1) (c .before .before .hand-over .ensures)
 
--- src/writing.rt:15:1
 returns-4 : tie.Need-returns-4
 returns-4 c = nothing-goes (c .before .before .before .before .before .args .held) (c .before .before .before .before .before .args .wants) (now (c .before .before .before .before .before .args .buf)) (now (c .before .before .before .before .before .args .out)) (now (c .before .before .before .before .before .args .out)) _ (c .before .enum-told4 .given .1) (c .finished .ensures)
 

@@ -3,15 +3,10 @@ use borrow.Author.Needs.{needs}
 use Rattle.samples.proofs.CheckLaws.{from-reader}
 use Rattle.samples.proofs.check.check.Statement.{statement}
 use Rattle.samples.proofs.check.check.Tie as tie
-use Rattle.samples.proofs.check.check.Reads as reads
-use Rattle.samples.proofs.check.check.Lts as lts
-use Rattle.samples.proofs.reader.reader.Reads as reader-reads
 
--- src/check.rt:57:17
 reader-requires : tie.Need-reader-requires
 reader-requires c κs = search needs
 
--- src/check.rt:53:1
 returns : tie.Need-returns
 returns c = λ rest. from-reader _ rest (c .reader .ensures rest)
 

@@ -3,30 +3,22 @@ use borrow.Author.Needs.{needs}
 use Rattle.samples.proofs.CheckLaws.{one-more, no-more}
 use Rattle.samples.proofs.check.counted.Statement.{statement}
 use Rattle.samples.proofs.check.counted.Tie as tie
-use Rattle.samples.proofs.check.counted.Reads as reads
-use Rattle.samples.proofs.check.counted.Lts as lts
 
--- src/check.rt:37:27
 enum-told : tie.Need-enum-told
 enum-told c = search needs
 
--- src/check.rt:38:20
 enum-known-found : tie.Need-enum-known-found
 enum-known-found c = search needs
 
--- src/check.rt:43:27
 add-t8 : tie.Need-add-t8
 add-t8 c = search needs
 
--- src/check.rt:42:17
 returns : tie.Need-returns
 returns c = rw (c .before .before .found .given .1, ← one-more _ (c .if1 .taken))
 
--- src/check.rt:33:1
 returns-2 : tie.Need-returns-2
 returns-2 c = rw (c .enum-told .given .1)
 
--- src/check.rt:33:1
 returns-3 : tie.Need-returns-3
 returns-3 c = rw (c .before .before .found .given .1, ← no-more _ (c .if1 .left) (search needs))
 

@@ -12,12 +12,6 @@ use Rattle.samples.proofs.LineLaws.{kept-whole, at-end-of}
 use Rattle.samples.proofs.CheckLaws.{found-counted}
 use Rattle.samples.proofs.check.feed.Statement.{statement}
 use Rattle.samples.proofs.check.feed.Tie as tie
-use Rattle.samples.proofs.check.feed.Reads as reads
-use Rattle.samples.proofs.check.feed.Lts as lts
-use Rattle.samples.proofs.check.counted.Reads as counted-reads
-use Rattle.samples.proofs.check.usual_rows_at.Reads as usual-rows-at-reads
-use Rattle.samples.proofs.reader.kept.Reads as kept-reads
-use Rattle.samples.proofs.reader.next_row.Reads as next-row-reads
 
 abbrev Inv-loop : tie.InvT-loop
 Inv-loop chunk line len₀ stage₀ span₀ at₀ len stage span at = (at ≤ length chunk) × ((rest : List ℕ) → spanned span₀ (yetToCome (record { line = line; len = len₀; stage = stage₀ }) (chunk ++ rest)) ≡ spanned span (yetToCome (record { line = line; len = len; stage = stage }) (drop at chunk ++ rest)))

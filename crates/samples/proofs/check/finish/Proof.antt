@@ -5,45 +5,33 @@ use Rattle.rules.specs.Answers.{accepted}
 use Rattle.samples.proofs.CheckLaws.{last-row, no-row, refused-end}
 use Rattle.samples.proofs.check.finish.Statement.{statement}
 use Rattle.samples.proofs.check.finish.Tie as tie
-use Rattle.samples.proofs.check.finish.Reads as reads
-use Rattle.samples.proofs.check.finish.Lts as lts
-use Rattle.samples.proofs.check.counted.Reads as counted-reads
-use Rattle.samples.proofs.reader.end.Reads as end-reads
 
--- src/check.rt:85:11
 end-requires : tie.Need-end-requires
 end-requires c κs = search needs
 
--- src/check.rt:86:25
 enum-known-row : tie.Need-enum-known-row
 enum-known-row c = search needs
 
--- src/check.rt:86:51
 counted-requires : tie.Need-counted-requires
 counted-requires c κs = search needs
 
--- src/check.rt:87:26
 enum-told : tie.Need-enum-told
 enum-told c = search needs
 
--- src/check.rt:88:25
 enum-known-refusal : tie.Need-enum-known-refusal
 enum-known-refusal c = search needs
 
--- src/check.rt:80:1
 returns : tie.Need-returns
 returns c =
     let row = c .before .before in
     let end = row .before .before in
     ap accepted (c .counted .ensures) ∙ last-row (end .before .before .before .args .check) _ _ (end .end .ensures) (row .row .given .1)
 
--- src/check.rt:80:1
 returns-2 : tie.Need-returns-2
 returns-2 c =
     let end = c .before .before in
     no-row (end .before .before .before .args .check) _ (end .end .ensures) (c .enum-told .given .1)
 
--- src/check.rt:80:1
 returns-3 : tie.Need-returns-3
 returns-3 c =
     let refusal = c .before in

@@ -9,10 +9,6 @@ use Rattle.samples.specs.Streamed.{UsualLater, CountedOn}
 use Rattle.samples.proofs.UsualRows.{none-counted, row-counted}
 use Rattle.samples.proofs.check.usual_rows.Statement.{statement}
 use Rattle.samples.proofs.check.usual_rows.Tie as tie
-use Rattle.samples.proofs.check.usual_rows.Reads as reads
-use Rattle.samples.proofs.check.usual_rows.Lts as lts
-use Rattle.samples.proofs.reader.usual_later.Reads as usual-later-reads
-use Rattle.samples.proofs.stage.next_line.Reads as next-line-reads
 
 abbrev Inv-loop : tie.InvT-loop
 Inv-loop columns last lines chunk at latest₀ line₀ rows₀ time₀ next₀ latest line rows time next =

@@ -4,9 +4,6 @@ use native.Mathlib.Omega.{arith}
 use borrow.Author.Needs.{needs}
 use Rattle.samples.proofs.check.usual_rows_at.Statement.{statement}
 use Rattle.samples.proofs.check.usual_rows_at.Tie as tie
-use Rattle.samples.proofs.check.usual_rows_at.Reads as reads
-use Rattle.samples.proofs.check.usual_rows_at.Lts as lts
-use Rattle.samples.proofs.check.usual_rows.Reads as usual-rows-reads
 
 returns : tie.Need-returns
 returns c = search needs

@@ -5,79 +5,58 @@ use borrow.Author.Tests.{le-leb, lt-leb}
 use borrow.Author.Needs.{needs}
 use Rattle.samples.proofs.inputs.comes_in.Statement.{statement}
 use Rattle.samples.proofs.inputs.comes_in.Tie as tie
-use Rattle.samples.proofs.inputs.comes_in.Reads as reads
-use Rattle.samples.proofs.inputs.comes_in.Lts as lts
-use Rattle.samples.proofs.inputs.last_comes_in.Reads as last-comes-in-reads
 
--- src/inputs.rt:97:26
 enum-told : tie.Need-enum-told
 enum-told c = search needs
 
--- src/inputs.rt:102:21
 enum-known-ahead : tie.Need-enum-known-ahead
 enum-known-ahead c = search needs
 
--- src/inputs.rt:103:16
 wide-requires : tie.Need-wide-requires
 wide-requires c κs = search needs
 
--- src/inputs.rt:104:17
 returns : tie.Need-returns
 returns c = rw (c .before .before .before .ahead .given .1, le-leb (c .before .before .before .ahead .given .0 .0 .at) (c .before .before .before .before .before .args .second) (omega (arith, c .before .wide .ensures .0, c .if1 .taken)))
 
--- src/inputs.rt:116:24
 enum-known-ahead-2 : tie.Need-enum-known-ahead-2
 enum-known-ahead-2 c = search needs
 
--- src/inputs.rt:117:16
 wide-requires-2 : tie.Need-wide-requires-2
 wide-requires-2 c κs = search needs
 
--- src/inputs.rt:118:17
 last-comes-in-requires : tie.Need-last-comes-in-requires
 last-comes-in-requires c κs = search needs
 
--- src/inputs.rt:118:17
 returns-2 : tie.Need-returns-2
 returns-2 c = rw (c .before .before .before .before .ahead2 .given .1, le-leb (c .before .before .before .before .ahead2 .given .0 .0 .at) (c .before .before .before .before .before .before .args .second) (omega (arith, c .before .before .wide2 .ensures .0, c .before .if2 .taken))) (c .last-comes-in .ensures)
 
--- src/inputs.rt:126:21
 enum-known-ahead-3 : tie.Need-enum-known-ahead-3
 enum-known-ahead-3 c = search needs
 
--- src/inputs.rt:126:30
 last-comes-in-requires-2 : tie.Need-last-comes-in-requires-2
 last-comes-in-requires-2 c κs = search needs
 
--- src/inputs.rt:127:25
 enum-told-2 : tie.Need-enum-told-2
 enum-told-2 c = search needs
 
--- src/inputs.rt:132:30
 enum-told-3 : tie.Need-enum-told-3
 enum-told-3 c = search needs
 
--- src/inputs.rt:93:1
 returns-3 : tie.Need-returns-3
 returns-3 c = rw (c .enum-told .given .1)
 
--- src/inputs.rt:93:1
 returns-4 : tie.Need-returns-4
 returns-4 c = rw (c .before .before .before .ahead .given .1, lt-leb (c .before .before .before .ahead .given .0 .0 .at) (c .before .before .before .before .before .args .second) (omega (arith, c .before .wide .ensures .0, c .if1 .left)))
 
--- src/inputs.rt:93:1
 returns-5 : tie.Need-returns-5
 returns-5 c = rw (c .before .before .before .ahead2 .given .1, lt-leb (c .before .before .before .ahead2 .given .0 .0 .at) (c .before .before .before .before .before .args .second) (omega (arith, c .before .wide2 .ensures .0, c .if2 .left)))
 
--- src/inputs.rt:93:1
 returns-6 : tie.Need-returns-6
 returns-6 c = rw (c .before .before .ahead3 .given .1) (c .last-comes-in2 .ensures)
 
--- src/inputs.rt:93:1
 returns-7 : tie.Need-returns-7
 returns-7 c = rw (c .enum-told2 .given .1)
 
--- src/inputs.rt:93:1
 returns-8 : tie.Need-returns-8
 returns-8 c = rw (c .enum-told3 .given .1)
 

@@ -5,42 +5,30 @@ use borrow.Author.Needs.{needs}
 use Rattle.samples.proofs.FillLaws.{filled-none}
 use Rattle.samples.proofs.inputs.fill.Statement.{statement}
 use Rattle.samples.proofs.inputs.fill.Tie as tie
-use Rattle.samples.proofs.inputs.fill.Reads as reads
-use Rattle.samples.proofs.inputs.fill.Lts as lts
-use Rattle.samples.proofs.inputs.fill_seconds.Reads as fill-seconds-reads
-use Rattle.samples.proofs.inputs.source_refused.Reads as source-refused-reads
 
--- src/inputs.rt:303:8
 source-refused-requires : tie.Need-source-refused-requires
 source-refused-requires c κs = search needs
 
--- src/inputs.rt:304:9
 returns : tie.Need-returns
 returns c =
     let a = c .before .before .before .before .before .before .args in
     filled-none (a .source) (a .second) (a .chunk .now) (a .at) (a .loads .now) (a .solars .now) (a .sheddables .now) (sym (c .before .source-refused .ensures) ∙ c .if1 .taken)
 
--- src/inputs.rt:310:9
 wide-requires : tie.Need-wide-requires
 wide-requires c κs = search needs
 
--- src/inputs.rt:311:5
 fill-seconds-requires : tie.Need-fill-seconds-requires
 fill-seconds-requires c κs = (omega (arith, c .before .before .before .wide .ensures .1), sym (c .before .before .before .before .before .source-refused .ensures) ∙ c .before .before .before .before .if1 .left)
 
--- src/inputs.rt:292:1
 same-length : tie.Need-same-length
 same-length c = search needs
 
--- src/inputs.rt:292:1
 same-length-2 : tie.Need-same-length-2
 same-length-2 c = search needs
 
--- src/inputs.rt:292:1
 same-length-3 : tie.Need-same-length-3
 same-length-3 c = search needs
 
--- src/inputs.rt:292:1
 returns-2 : tie.Need-returns-2
 returns-2 c = rw (c .before .before .before .before .before .before .before .before .before .before .wide .ensures .0) at (c .before .before .before .before .before .before .fill-seconds .ensures)
 

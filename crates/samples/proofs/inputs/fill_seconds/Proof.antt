@@ -13,14 +13,6 @@ use Rattle.samples.proofs.LineLaws.{kept-whole, at-end-of}
 use Rattle.samples.proofs.FillLaws.{filling-start, filling-more, filled, filled-short}
 use Rattle.samples.proofs.inputs.fill_seconds.Statement.{statement}
 use Rattle.samples.proofs.inputs.fill_seconds.Tie as tie
-use Rattle.samples.proofs.inputs.fill_seconds.Reads as reads
-use Rattle.samples.proofs.inputs.fill_seconds.Lts as lts
-use Rattle.samples.proofs.inputs.filled_at.Reads as filled-at-reads
-use Rattle.samples.proofs.inputs.reach.Reads as reach-reads
-use Rattle.samples.proofs.inputs.reader_at.Reads as reader-at-reads
-use Rattle.samples.proofs.reader.kept.Reads as kept-reads
-use Rattle.samples.proofs.usual_seconds.told_before.Reads as told-before-reads
-use Rattle.samples.proofs.usual_seconds.usual_seconds.Reads as usual-seconds-reads
 
 abbrev Inv-loop : tie.InvT-loop
 Inv-loop first chunk at loads₀ solars₀ sheddables₀ places line told₀ loads solars sheddables told =
@@ -38,13 +30,13 @@ lesser-requires-2 c κs = search needs
 lesser-requires-3 : tie.Need-lesser-requires-3 Inv-loop μ-loop
 lesser-requires-3 c κs = search needs
 
-told-before-requires : tie.Need-told-before-requires Inv-loop μ-loop
-told-before-requires c κs = search needs
+fill-begun-requires : tie.Need-fill-begun-requires Inv-loop μ-loop
+fill-begun-requires c κs = search needs
 
 loop-holds : tie.Need-loop-holds Inv-loop μ-loop
 loop-holds c =
     let a = c .before .before .before .before .before .before .before .before .before .before .args in
-    (rw (c .before .before .before .before .lesser2 .ensures, c .before .before .before .before .before .lesser .ensures), rw (c .told-before .ensures) (filling-start (a .source) (a .first) (a .chunk .now) (a .at) (a .loads .now) (a .solars .now) (a .sheddables .now) _ (c .before .lesser3 .ensures)))
+    (rw (c .before .before .before .before .lesser2 .ensures, c .before .before .before .before .before .lesser .ensures), rw (c .fill-begun .ensures) (filling-start (a .source) (a .first) (a .chunk .now) (a .at) (a .loads .now) (a .solars .now) (a .sheddables .now) _ (c .before .lesser3 .ensures)))
 
 usual-seconds-requires : tie.Need-usual-seconds-requires Inv-loop μ-loop
 usual-seconds-requires c κs = (c .before .before .before .before .before .before .before .before .before .before .before .before .before .before .before .before .pre .0, omega (arith, c .before .before .before .before .before .loop .inv .0, c .before .before .before .before .before .loop .inv .1 .keptLoads .size, c .before .before .before .before .before .loop .inv .1 .keptSolars .size, c .before .before .before .before .before .loop .inv .1 .keptSheddables .size))
@@ -65,7 +57,7 @@ returns : tie.Need-returns Inv-loop μ-loop
 returns c =
     let a = c .before .before .before .before .before .before .before .before .before .before .before .before .before .before .before .before .before .before .before .before .before .before .before .before .before .args in
     let line = a .source .reader .line in
-    let g = c .before .before .before .before .before .before .before .before .usual-seconds .ensures .filling (a .source) (a .at) (a .loads .now) (a .solars .now) (a .sheddables .now) line (c .before .before .before .before .before .before .before .before .before .before .before .before .before .before .loop .inv .0) (rw (c .before .before .before .before .before .before .before .before .before .before .before .before .before .before .before .told-before .ensures) at (c .before .before .before .before .before .before .before .before .before .before .before .before .before .before .loop .inv .1)) in
+    let g = c .before .before .before .before .before .before .before .before .usual-seconds .ensures .filling (a .source) (a .at) (a .loads .now) (a .solars .now) (a .sheddables .now) line (c .before .before .before .before .before .before .before .before .before .before .before .before .before .before .loop .inv .0) (rw (c .before .before .before .before .before .before .before .before .before .before .before .before .before .before .before .fill-begun .ensures) at (c .before .before .before .before .before .before .before .before .before .before .before .before .before .before .loop .inv .1)) in
     rw (c .filled-at .ensures) (filled (a .source) (a .first) (a .chunk .now) (a .at) (a .loads .now) (a .solars .now) (a .sheddables .now) _ _ _ _ g (c .before .before .before .before .before .before .before .before .before .before .before .before .before .before .before .before .before .before .before .before .before .before .before .before .before .pre .1) (omega (arith, c .before .if2 .taken, c .before .before .before .before .before .before .before .before .before .before .before .before .before .before .loop .inv .0)))
 
 add-reach : tie.Need-add-reach Inv-loop μ-loop
@@ -105,7 +97,7 @@ returns-2 c =
     let line = a .source .reader .line in
     let usual = c .before .before .before .before .before .before .before .before .before .before .before .before .before .before .before .before .usual-seconds .result in
     let q = c .before .before .before .before .before .before .before .reach .result in
-    let g = c .before .before .before .before .before .before .before .before .before .before .before .before .before .before .before .before .usual-seconds .ensures .filling (a .source) (a .at) (a .loads .now) (a .solars .now) (a .sheddables .now) line (c .before .before .before .before .before .before .before .before .before .before .before .before .before .before .before .before .before .before .before .before .before .before .loop .inv .0) (rw (c .before .before .before .before .before .before .before .before .before .before .before .before .before .before .before .before .before .before .before .before .before .before .before .told-before .ensures) at (c .before .before .before .before .before .before .before .before .before .before .before .before .before .before .before .before .before .before .before .before .before .before .loop .inv .1)) in
+    let g = c .before .before .before .before .before .before .before .before .before .before .before .before .before .before .before .before .usual-seconds .ensures .filling (a .source) (a .at) (a .loads .now) (a .solars .now) (a .sheddables .now) line (c .before .before .before .before .before .before .before .before .before .before .before .before .before .before .before .before .before .before .before .before .before .before .loop .inv .0) (rw (c .before .before .before .before .before .before .before .before .before .before .before .before .before .before .before .before .before .before .before .before .before .before .before .fill-begun .ensures) at (c .before .before .before .before .before .before .before .before .before .before .before .before .before .before .before .before .before .before .before .before .before .before .loop .inv .1)) in
     let told = not-true _ (c .before .before .before .if3 .taken) in
     let keeps : (rest : List ℕ) → yetToCome (readerAt (q .begun) line) (drop (q .next) s ++ rest) ≡ yetToCome (c .kept .result) rest =
     λ rest. ap (λ (m : SampleReader). yetToCome m (drop (q .next) s ++ rest)) (sym (c .before .before .reader-at .ensures))
@@ -141,7 +133,7 @@ loop-again c =
     let a = c .before .before .before .before .before .before .before .before .before .before .before .before .before .before .before .before .before .before .before .before .before .before .before .before .before .before .before .before .before .before .args in
     let line = a .source .reader .line in
     let usual = c .before .before .before .before .before .before .before .before .before .before .before .before .before .usual-seconds .result in
-    let from = filledAt (c .before .before .before .before .before .before .before .before .before .before .before .before .before .before .before .before .before .before .before .before .told-before .result) line .source in
+    let from = filledAt (c .before .before .before .before .before .before .before .before .before .before .before .before .before .before .before .before .before .before .before .before .fill-begun .result) line .source in
     let g = c .before .before .before .before .before .before .before .before .before .before .before .before .before .usual-seconds .ensures .filling from (a .at) (a .loads .now) (a .solars .now) (a .sheddables .now) line (c .before .before .before .before .before .before .before .before .before .before .before .before .before .before .before .before .before .before .before .loop .inv .0) (c .before .before .before .before .before .before .before .before .before .before .before .before .before .before .before .before .before .before .before .loop .inv .1) in
     (c .before .before .before .before .before .before .before .before .before .before .before .before .before .before .before .before .before .before .before .loop .inv .0, filling-more from (a .first) (a .chunk .now) (a .at) (a .loads .now) (a .solars .now) (a .sheddables .now) (filledAt usual line) _ _ _ g (usual .begun) line refl (c .before .before .before .before .reach .result) (c .before .before .before .before .reach .ensures) (not-false _ (c .if3 .left)) (omega (arith, c .before .before .before .before .before .before .if2 .left, c .before .before .before .before .before .before .before .before .before .before .before .before .before .before .before .before .before .before .before .loop .inv .0)))
 
@@ -160,7 +152,7 @@ same-length-9 c = c .before .before .before .loop .inv .1 .keptSheddables .size
 returns-3 : tie.Need-returns-3 Inv-loop μ-loop
 returns-3 c =
     let a = c .before .before .before .before .before .before .before .before .before .before .before .before .before .before .args in
-    rw (c .filled-at2 .ensures) (filled (a .source) (a .first) (a .chunk .now) (a .at) (a .loads .now) (a .solars .now) (a .sheddables .now) _ _ _ _ (rw (c .before .before .before .before .told-before .ensures) at (c .before .before .before .loop .inv .1)) (c .before .before .before .before .before .before .before .before .before .before .before .before .before .before .pre .1) (omega (arith, c .before .if1 .left, c .before .before .before .loop .inv .0)))
+    rw (c .filled-at2 .ensures) (filled (a .source) (a .first) (a .chunk .now) (a .at) (a .loads .now) (a .solars .now) (a .sheddables .now) _ _ _ _ (rw (c .before .before .before .before .fill-begun .ensures) at (c .before .before .before .loop .inv .1)) (c .before .before .before .before .before .before .before .before .before .before .before .before .before .before .pre .1) (omega (arith, c .before .if1 .left, c .before .before .before .loop .inv .0)))
 
 pub fill-seconds-spec : {M : Type 1} → statement M
 fill-seconds-spec =
@@ -171,7 +163,7 @@ fill-seconds-spec =
     lesser-requires
     lesser-requires-2
     lesser-requires-3
-    told-before-requires
+    fill-begun-requires
     loop-holds
     usual-seconds-requires
     filled-at-requires

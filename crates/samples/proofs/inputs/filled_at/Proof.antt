@@ -2,9 +2,6 @@
 use borrow.Author.Needs.{needs}
 use Rattle.samples.proofs.inputs.filled_at.Statement.{statement}
 use Rattle.samples.proofs.inputs.filled_at.Tie as tie
-use Rattle.samples.proofs.inputs.filled_at.Reads as reads
-use Rattle.samples.proofs.inputs.filled_at.Lts as lts
-use Rattle.samples.proofs.inputs.reader_at.Reads as reader-at-reads
 
 reader-at-requires : tie.Need-reader-at-requires
 reader-at-requires c κs = search needs

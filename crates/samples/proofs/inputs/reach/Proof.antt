@@ -11,10 +11,6 @@ use Rattle.samples.specs.Held.{comesIn}
 use Rattle.samples.proofs.HeldLaws.{Reaching, reaching-start, reaching-more, not-reached, reached}
 use Rattle.samples.proofs.inputs.reach.Statement.{statement}
 use Rattle.samples.proofs.inputs.reach.Tie as tie
-use Rattle.samples.proofs.inputs.reach.Reads as reads
-use Rattle.samples.proofs.inputs.reach.Lts as lts
-use Rattle.samples.proofs.inputs.comes_in.Reads as comes-in-reads
-use Rattle.samples.proofs.reader.next_row.Reads as next-row-reads
 
 abbrev Inv-loop : tie.InvT-loop
 Inv-loop line second chunk at stage₀ len₀ next₀ known₀ stage len next known = (now : Sample) (ahead : Ahead) → known₀ ≡ comesIn now ahead second → Reaching (record { stage = stage₀; len = len₀ }) line now ahead second chunk at (record { stage = stage; len = len }) next known
@@ -22,47 +18,36 @@ Inv-loop line second chunk at stage₀ len₀ next₀ known₀ stage len next kn
 abbrev μ-loop : tie.MeasureT-loop
 μ-loop line second chunk at stage₀ len₀ next₀ known₀ stage len next known = length chunk - next
 
--- src/inputs.rt:162:9
 lesser-requires : tie.Need-lesser-requires Inv-loop μ-loop
 lesser-requires c κs = search needs
 
--- src/inputs.rt:163:9
 comes-in-requires : tie.Need-comes-in-requires Inv-loop μ-loop
 comes-in-requires c κs = search needs
 
--- src/inputs.rt:164:5
 loop-holds : tie.Need-loop-holds Inv-loop μ-loop
 loop-holds c = λ now ahead is. reaching-start _ (c .before .before .before .args .line .now) now ahead _ (c .before .before .before .args .chunk .now) (c .before .before .before .args .at) _ _ (c .before .lesser .ensures) is
 
--- src/inputs.rt:165:13
 next-row-requires : tie.Need-next-row-requires Inv-loop μ-loop
 next-row-requires c κs = search needs
 
--- src/inputs.rt:171:24
 enum-known-found : tie.Need-enum-known-found Inv-loop μ-loop
 enum-known-found c = search needs
 
--- src/inputs.rt:173:24
 enum-told : tie.Need-enum-told Inv-loop μ-loop
 enum-told c = search needs
 
--- src/inputs.rt:172:13
 returns : tie.Need-returns Inv-loop μ-loop
 returns c = not-reached (c .before .before .before .before .before .before .before .before .before .args .begun) (c .before .before .before .before .before .before .before .before .before .args .line .now) _ _ _ _ _ _ _ _ (c .before .before .before .before .before .loop .inv (c .before .before .before .before .before .before .before .before .before .args .held) (c .before .before .before .before .before .before .before .before .before .args .ahead) (c .before .before .before .before .before .before .comes-in .ensures)) (c .before .before .before .next-row .result) (c .before .before .before .next-row .ensures) (c .before .before .before .before .loop-test .taken) (c .enum-told .given .1)
 
--- src/inputs.rt:180:9
 comes-in-requires-2 : tie.Need-comes-in-requires-2 Inv-loop μ-loop
 comes-in-requires-2 c κs = search needs
 
--- src/inputs.rt:164:5
 loop-less : tie.Need-loop-less Inv-loop μ-loop
 loop-less c = let o = c .before .before .before .before .before .next-row .ensures .onward (ap isRow (c .before .before .found .given .1)) in omega (arith, o, c .before .before .before .before .before .next-row .ensures .within)
 
--- src/inputs.rt:164:5
 loop-again : tie.Need-loop-again Inv-loop μ-loop
 loop-again c = λ now ahead is. reaching-more (c .before .before .before .before .before .before .before .before .before .before .before .args .begun) (c .before .before .before .before .before .before .before .before .before .before .before .args .line .now) now ahead _ _ _ _ _ _ (c .before .before .before .before .before .before .before .loop .inv now ahead is) (c .before .before .before .before .before .next-row .result) (c .before .before .before .before .before .next-row .ensures) (c .before .before .before .before .before .before .loop-test .taken) _ _ (c .before .before .found .given .1) (c .comes-in2 .ensures)
 
--- src/inputs.rt:149:1
 returns-2 : tie.Need-returns-2 Inv-loop μ-loop
 returns-2 c = reached (c .before .before .before .before .before .before .args .begun) (c .before .before .before .before .before .before .args .line .now) _ _ _ _ _ _ _ _ (c .before .before .loop .inv (c .before .before .before .before .before .before .args .held) (c .before .before .before .before .before .before .args .ahead) (c .before .before .before .comes-in .ensures)) (c .before .loop-test .left)
 

@@ -3,64 +3,48 @@ use borrow.Author.Needs.{needs}
 use Rattle.samples.specs.Held.{sourceRefused}
 use Rattle.samples.proofs.inputs.source_refused.Statement.{statement}
 use Rattle.samples.proofs.inputs.source_refused.Tie as tie
-use Rattle.samples.proofs.inputs.source_refused.Reads as reads
-use Rattle.samples.proofs.inputs.source_refused.Lts as lts
-use Rattle.samples.proofs.check.line_refused.Reads as line-refused-reads
 
--- src/inputs.rt:207:26
 enum-told : tie.Need-enum-told
 enum-told c = search needs
 
--- src/inputs.rt:207:26
 line-refused-requires : tie.Need-line-refused-requires
 line-refused-requires c κs = search needs
 
--- src/inputs.rt:208:27
 enum-told-2 : tie.Need-enum-told-2
 enum-told-2 c = search needs
 
--- src/inputs.rt:209:33
 enum-told-3 : tie.Need-enum-told-3
 enum-told-3 c = search needs
 
--- src/inputs.rt:210:27
 enum-told-4 : tie.Need-enum-told-4
 enum-told-4 c = search needs
 
--- src/inputs.rt:211:25
 enum-told-5 : tie.Need-enum-told-5
 enum-told-5 c = search needs
 
--- src/inputs.rt:212:30
 enum-told-6 : tie.Need-enum-told-6
 enum-told-6 c = search needs
 
--- src/inputs.rt:200:1
 returns : tie.Need-returns
 unfolding sourceRefused
 returns c = rw (c .before .enum-told .given .1) (c .line-refused .ensures)
 
--- src/inputs.rt:200:1
 returns-2 : tie.Need-returns-2
 unfolding sourceRefused
 returns-2 c = rw (c .enum-told2 .given .1)
 
--- src/inputs.rt:200:1
 returns-3 : tie.Need-returns-3
 unfolding sourceRefused
 returns-3 c = rw (c .enum-told3 .given .1)
 
--- src/inputs.rt:200:1
 returns-4 : tie.Need-returns-4
 unfolding sourceRefused
 returns-4 c = rw (c .enum-told4 .given .1)
 
--- src/inputs.rt:200:1
 returns-5 : tie.Need-returns-5
 unfolding sourceRefused
 returns-5 c = rw (c .enum-told5 .given .1)
 
--- src/inputs.rt:200:1
 returns-6 : tie.Need-returns-6
 unfolding sourceRefused
 returns-6 c = rw (c .enum-told6 .given .1)

@@ -8,16 +8,10 @@ use Rattle.samples.proofs.LineLaws.{take-rest, no-further, one-line}
 use borrow.Author.Needs.{needs}
 use Rattle.samples.proofs.reader.any_line.Statement.{statement}
 use Rattle.samples.proofs.reader.any_line.Tie as tie
-use Rattle.samples.proofs.reader.any_line.Reads as reads
-use Rattle.samples.proofs.reader.any_line.Lts as lts
-use Rattle.bytes.proofs.scan.find.Reads as find-reads
-use Rattle.samples.proofs.reader.joined_line.Reads as joined-line-reads
 
--- src/reader.rt:191:9
 find-requires : tie.Need-find-requires
 find-requires c κs = search needs
 
--- src/reader.rt:193:9
 returns : tie.Need-returns
 returns c =
     let s = c .before .before .before .args .chunk .now in
@@ -25,27 +19,21 @@ returns c =
     let n = no-further s (c .before .before .before .args .at) (c .before .find .result) (c .before .find .ensures .0) h in
     record { line = λ e. never e; onward = λ e. never e; within = omega (arith, c .before .before .before .pre); further = λ e. rw (take-rest s (c .before .before .before .args .at)) at n }
 
--- src/reader.rt:200:46
 sub-joined-line : tie.Need-sub-joined-line
 sub-joined-line c = search needs
 
--- src/reader.rt:200:46
 part-joined-line-start : tie.Need-part-joined-line-start
 part-joined-line-start c = search needs
 
--- src/reader.rt:200:46
 part-joined-line-end : tie.Need-part-joined-line-end
 part-joined-line-end c = search needs
 
--- src/reader.rt:200:9
 joined-line-requires : tie.Need-joined-line-requires
 joined-line-requires c κs = search needs
 
--- src/reader.rt:206:15
 add-t10 : tie.Need-add-t10
 add-t10 c = search needs
 
--- src/reader.rt:187:1
 returns-2 : tie.Need-returns-2
 returns-2 c =
     let s = c .before .before .before .before .before .args .chunk .now in

@@ -12,20 +12,13 @@ use Rattle.samples.proofs.StageLaws.{row-ends}
 use Rattle.samples.proofs.LineLaws.{held-is, line-at-end, last-line}
 use Rattle.samples.proofs.reader.end.Statement.{statement}
 use Rattle.samples.proofs.reader.end.Tie as tie
-use Rattle.samples.proofs.reader.end.Reads as reads
-use Rattle.samples.proofs.reader.end.Lts as lts
-use Rattle.samples.proofs.reader.ended_at.Reads as ended-at-reads
-use Rattle.samples.proofs.reader.whole_line.Reads as whole-line-reads
 
--- src/reader.rt:220:9
 lesser-requires : tie.Need-lesser-requires
 lesser-requires c κs = search needs
 
--- src/reader.rt:222:9
 ended-at-requires : tie.Need-ended-at-requires
 ended-at-requires c κs = λ h. never h
 
--- src/reader.rt:222:9
 returns : tie.Need-returns
 unfolding yetToCome
 returns c =
@@ -35,27 +28,22 @@ returns c =
     let none = sym held ∙ ap (λ (n : ℕ). take n (m .line)) (c .before .if1 .taken) in
     c .ended-at .ensures ∙ sym (ap (toCome (m .stage)) (ap (λ (s : List ℕ). linesAfter s []) none ∙ line-at-end []))
 
--- src/reader.rt:227:36
 array-share-prefix-line : tie.Need-array-share-prefix-line
 array-share-prefix-line c =
     let size : length (c .before .before .before .args .reader .line) ≡ 512 = simp length-map at (c .before .before .before .good .0 .1 .1 .0 .1 .0 .1) in
     omega arith
 
--- src/reader.rt:227:36
 slice-aggregate-whole-line : tie.Need-slice-aggregate-whole-line
 slice-aggregate-whole-line c =
     let size : length (c .before .before .before .before .args .reader .line) ≡ 512 = simp length-map at (c .before .before .before .before .good .0 .1 .1 .0 .1 .0 .1) in
     simp length-take (omega arith)
 
--- src/reader.rt:227:14
 whole-line-requires : tie.Need-whole-line-requires
 whole-line-requires c κs = search needs
 
--- src/reader.rt:227:5
 ended-at-requires-2 : tie.Need-ended-at-requires-2
 ended-at-requires-2 c κs = row-ends _ _ (c .whole-line .result .found) _ (c .whole-line .ensures)
 
--- src/reader.rt:215:1
 returns-2 : tie.Need-returns-2
 unfolding yetToCome
 returns-2 c =

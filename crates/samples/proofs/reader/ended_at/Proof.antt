@@ -3,38 +3,28 @@ use borrow.Author.Needs.{needs}
 use Rattle.samples.proofs.LineLaws.{ending-refused, ending-row, ending-nothing}
 use Rattle.samples.proofs.reader.ended_at.Statement.{statement}
 use Rattle.samples.proofs.reader.ended_at.Tie as tie
-use Rattle.samples.proofs.reader.ended_at.Reads as reads
-use Rattle.samples.proofs.reader.ended_at.Lts as lts
-use Rattle.samples.proofs.stage.verdict_at.Reads as verdict-at-reads
 
--- src/reader.rt:203:9
 verdict-at-requires : tie.Need-verdict-at-requires
 verdict-at-requires c κs = search needs
 
--- src/reader.rt:204:29
 enum-known-verdict : tie.Need-enum-known-verdict
 enum-known-verdict c = search needs
 
--- src/reader.rt:205:9
 returns : tie.Need-returns
 returns c = ending-refused (c .before .before .before .before .args .turn .found) _ _ _ (c .before .verdict .given .1) (c .before .before .before .verdict-at .ensures) (c .before .before .before .before .pre)
 
 enum-told : tie.Need-enum-told
 enum-told c = search needs
 
--- src/reader.rt:209:20
 enum-known-found : tie.Need-enum-known-found
 enum-known-found c = search needs
 
--- src/reader.rt:210:27
 enum-told-2 : tie.Need-enum-told-2
 enum-told-2 c = search needs
 
--- src/reader.rt:199:1
 returns-2 : tie.Need-returns-2
 returns-2 c = ending-row _ _ _ _ (c .before .found .given .1) (c .before .before .before .enum-told .given .1) (c .before .before .before .before .before .verdict-at .ensures)
 
--- src/reader.rt:199:1
 returns-3 : tie.Need-returns-3
 returns-3 c = ending-nothing _ _ _ (c .enum-told2 .given .1) (c .before .before .enum-told .given .1) (c .before .before .before .before .verdict-at .ensures)
 

@@ -9,8 +9,6 @@ use Rattle.rules.proofs.Tests.{never}
 use Rattle.samples.proofs.LineLaws.{copy-turn, whole-fits, whole-over, whole-is}
 use Rattle.samples.proofs.reader.extended_by.Statement.{statement}
 use Rattle.samples.proofs.reader.extended_by.Tie as tie
-use Rattle.samples.proofs.reader.extended_by.Reads as reads
-use Rattle.samples.proofs.reader.extended_by.Lts as lts
 
 abbrev Inv-loop : tie.InvT-loop
 Inv-loop len more held whole₀ i₀ whole i = (i ≤ length more) × (held + length more ≤ 512) × (length whole₀ ≡ 512) × (whole ≡ paste whole₀ held more i)
@@ -18,58 +16,46 @@ Inv-loop len more held whole₀ i₀ whole i = (i ≤ length more) × (held + le
 abbrev μ-loop : tie.MeasureT-loop
 μ-loop len more held whole₀ i₀ whole i = length more - i
 
--- src/reader.rt:85:9
 lesser-requires : tie.Need-lesser-requires Inv-loop μ-loop
 lesser-requires c κs = search needs
 
--- src/reader.rt:86:8
 sub-if1 : tie.Need-sub-if1 Inv-loop μ-loop
 sub-if1 c = search needs
 
--- src/reader.rt:87:9
 returns : tie.Need-returns Inv-loop μ-loop
 returns c =
     let a = c .before .before .before .args in
     let over = whole-over (a .line) (a .more .now) (a .len) (c .before .lesser .result) (omega arith) (c .before .lesser .ensures) (omega arith) in
     (over, (λ fits. never fits, omega arith, omega arith))
 
--- src/reader.rt:95:5
 loop-holds : tie.Need-loop-holds Inv-loop μ-loop
 loop-holds c =
     let a = c .before .before .before .args in
     (omega arith, omega arith, omega arith, paste-zero (a .line) (c .before .lesser .result) (a .more .now))
 
--- src/reader.rt:96:18
 add-at : tie.Need-add-at Inv-loop μ-loop
 add-at c = search needs
 
--- src/reader.rt:97:21
 shared-slice-read-whole : tie.Need-shared-slice-read-whole Inv-loop μ-loop
 shared-slice-read-whole c = search needs
 
--- src/reader.rt:97:9
 array-write-whole : tie.Need-array-write-whole Inv-loop μ-loop
 array-write-whole c = search needs
 
--- src/reader.rt:98:9
 add-i : tie.Need-add-i Inv-loop μ-loop
 add-i c = search needs
 
--- src/reader.rt:95:5
 loop-less : tie.Need-loop-less Inv-loop μ-loop
 loop-less c = search needs
 
--- src/reader.rt:95:5
 loop-again : tie.Need-loop-again Inv-loop μ-loop
 loop-again c =
     let l = c .before .before .loop in
     (omega arith, l .inv .1, l .inv .2, copy-turn _ _ _ _ (l .i) (l .inv .3) (omega arith) (omega arith))
 
--- src/reader.rt:102:14
 add-t8 : tie.Need-add-t8 Inv-loop μ-loop
 add-t8 c = search needs
 
--- src/reader.rt:81:1
 returns-2 : tie.Need-returns-2 Inv-loop μ-loop
 returns-2 c =
     let a = c .before .before .before .before .before .args in

@@ -6,47 +6,33 @@ use borrow.Author.Tests.{leb-false, not-true, not-false}
 use borrow.Author.Needs.{needs}
 use Rattle.samples.proofs.reader.joined_line.Statement.{statement}
 use Rattle.samples.proofs.reader.joined_line.Tie as tie
-use Rattle.samples.proofs.reader.joined_line.Reads as reads
-use Rattle.samples.proofs.reader.joined_line.Lts as lts
-use Rattle.samples.proofs.reader.whole_line.Reads as whole-line-reads
-use Rattle.samples.proofs.reader.extended_by.Reads as extended-by-reads
-use Rattle.samples.proofs.stage.too_long.Reads as too-long-reads
 
--- src/reader.rt:112:9
 whole-line-requires : tie.Need-whole-line-requires
 whole-line-requires c κs = search needs
 
--- src/reader.rt:112:9
 returns : tie.Need-returns
 returns c = λ ls. rw (c .before .if1 .taken) (c .whole-line .ensures ls)
 
--- src/reader.rt:115:9
 extended-by-requires : tie.Need-extended-by-requires
 extended-by-requires c κs = search needs
 
--- src/reader.rt:118:20
 too-long-requires : tie.Need-too-long-requires
 too-long-requires c κs = search needs
 
--- src/reader.rt:117:9
 returns-2 : tie.Need-returns-2
 returns-2 c =
     let over = leb-false _ 512 (sym (c .before .before .before .extended-by .ensures .0) ∙ not-true _ (c .before .if2 .taken)) in
     λ ls. c .too-long .ensures _ ls ls over
 
--- src/reader.rt:124:23
 array-share-prefix-text : tie.Need-array-share-prefix-text
 array-share-prefix-text c = omega arith
 
--- src/reader.rt:124:23
 slice-aggregate-whole-line : tie.Need-slice-aggregate-whole-line
 slice-aggregate-whole-line c = simp length-take (omega arith)
 
--- src/reader.rt:124:5
 whole-line-requires-2 : tie.Need-whole-line-requires-2
 whole-line-requires-2 c κs = search needs
 
--- src/reader.rt:108:1
 returns-3 : tie.Need-returns-3
 returns-3 c =
     let whole = c .before .before .before .before .before .extended-by .ensures .1 .0 (not-false _ (c .before .before .before .if2 .left)) in

@@ -10,16 +10,10 @@ use Rattle.samples.specs.Streamed.{linesAfter, yetToCome}
 use Rattle.samples.proofs.LineLaws.{line-goes-on, long-line}
 use Rattle.samples.proofs.reader.kept.Statement.{statement}
 use Rattle.samples.proofs.reader.kept.Tie as tie
-use Rattle.samples.proofs.reader.kept.Reads as reads
-use Rattle.samples.proofs.reader.kept.Lts as lts
-use Rattle.samples.proofs.reader.extended_by.Reads as extended-by-reads
-use Rattle.samples.proofs.stage.too_long.Reads as too-long-reads
 
--- src/reader.rt:133:9
 extended-by-requires : tie.Need-extended-by-requires
 extended-by-requires c κs = search needs
 
--- src/reader.rt:136:9
 returns : tie.Need-returns
 unfolding yetToCome
 returns c =
@@ -28,11 +22,9 @@ returns c =
     let whole = c .before .before .extended-by .ensures .1 .0 (c .if1 .taken) in
     λ none rest. ap (toCome (m .stage)) (line-goes-on (take (m .len) (m .line)) s rest none ∙ ap (λ (l : List ℕ). linesAfter l rest) (sym whole))
 
--- src/reader.rt:145:16
 too-long-requires : tie.Need-too-long-requires
 too-long-requires c κs = search needs
 
--- src/reader.rt:128:1
 returns-2 : tie.Need-returns-2
 unfolding yetToCome
 returns-2 c =

@@ -7,62 +7,43 @@ use Rattle.samples.proofs.LineLaws.{usual-told}
 use borrow.Author.Needs.{needs}
 use Rattle.samples.proofs.reader.line_at.Statement.{statement}
 use Rattle.samples.proofs.reader.line_at.Tie as tie
-use Rattle.samples.proofs.reader.line_at.Reads as reads
-use Rattle.samples.proofs.reader.line_at.Lts as lts
-use Rattle.samples.proofs.reader.any_line.Reads as any-line-reads
-use Rattle.samples.proofs.stage.after_later.Reads as after-later-reads
-use Rattle.samples.proofs.stage.next_line.Reads as next-line-reads
-use Rattle.sheet.proofs.usual.usual_row.Reads as usual-row-reads
 
--- src/reader.rt:222:9
 any-line-requires : tie.Need-any-line-requires
 any-line-requires c κs = search needs
 
--- src/reader.rt:222:9
 returns : tie.Need-returns
 returns c = search needs
 
--- src/reader.rt:224:26
 enum-known-stage : tie.Need-enum-known-stage
 enum-known-stage c = search needs
 
--- src/reader.rt:225:9
 any-line-requires-2 : tie.Need-any-line-requires-2
 any-line-requires-2 c κs = search needs
 
--- src/reader.rt:225:9
 returns-2 : tie.Need-returns-2
 returns-2 c = search needs
 
--- src/reader.rt:227:9
 usual-row-requires : tie.Need-usual-row-requires
 usual-row-requires c κs = search needs
 
--- src/reader.rt:228:20
 enum-known-usual : tie.Need-enum-known-usual
 enum-known-usual c = search needs
 
--- src/reader.rt:229:9
 enum-told : tie.Need-enum-told
 enum-told c = search needs
 
--- src/reader.rt:229:9
 any-line-requires-3 : tie.Need-any-line-requires-3
 any-line-requires-3 c κs = search needs
 
--- src/reader.rt:229:9
 returns-3 : tie.Need-returns-3
 returns-3 c = rw (c .before .before .before .before .before .stage .given .1) (c .any-line3 .ensures)
 
--- src/reader.rt:231:43
 next-line-requires : tie.Need-next-line-requires
 next-line-requires c κs = search needs
 
--- src/reader.rt:231:9
 after-later-requires : tie.Need-after-later-requires
 after-later-requires c κs = search needs
 
--- src/reader.rt:217:1
 returns-4 : tie.Need-returns-4
 returns-4 c =
     let s = c .before .before .before .before .before .before .before .before .before .before .before .args .chunk .now in

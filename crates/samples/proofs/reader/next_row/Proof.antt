@@ -13,9 +13,6 @@ use Rattle.samples.specs.Streamed.{linesAfter}
 use Rattle.samples.proofs.LineLaws.{drop-least, none-left}
 use Rattle.samples.proofs.reader.next_row.Statement.{statement}
 use Rattle.samples.proofs.reader.next_row.Tie as tie
-use Rattle.samples.proofs.reader.next_row.Reads as reads
-use Rattle.samples.proofs.reader.next_row.Lts as lts
-use Rattle.samples.proofs.reader.line_at.Reads as line-at-reads
 
 abbrev Inv-loop : tie.InvT-loop
 Inv-loop line len chunk at latest₀ begun₀ next₀ latest begun next =

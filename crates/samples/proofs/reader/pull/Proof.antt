@@ -7,46 +7,34 @@ use Rattle.samples.specs.Streamed.{yetToCome, isRow}
 use Rattle.samples.proofs.LineLaws.{kept-whole}
 use Rattle.samples.proofs.reader.pull.Statement.{statement}
 use Rattle.samples.proofs.reader.pull.Tie as tie
-use Rattle.samples.proofs.reader.pull.Reads as reads
-use Rattle.samples.proofs.reader.pull.Lts as lts
-use Rattle.samples.proofs.reader.kept.Reads as kept-reads
-use Rattle.samples.proofs.reader.next_row.Reads as next-row-reads
 
--- src/reader.rt:261:9
 next-row-requires : tie.Need-next-row-requires
 next-row-requires c κs = search needs
 
 enum-told : tie.Need-enum-told
 enum-told c = search needs
 
--- src/reader.rt:268:9
 enum-told-2 : tie.Need-enum-told-2
 enum-told-2 c = search needs
 
--- src/reader.rt:268:9
 returns : tie.Need-returns
 unfolding yetToCome
 returns c =
     let n = c .before .before .next-row .ensures in
     record { rows = n .rows; within = n .within; onward = n .onward; exhausted = λ none. never (sym (rw (c .enum-told2 .given .1) at none)) }
 
--- src/reader.rt:275:29
 sub-kept : tie.Need-sub-kept
 sub-kept c = search needs
 
--- src/reader.rt:275:29
 part-kept-start : tie.Need-part-kept-start
 part-kept-start c = search needs
 
--- src/reader.rt:275:29
 part-kept-end : tie.Need-part-kept-end
 part-kept-end c = search needs
 
--- src/reader.rt:275:17
 kept-requires : tie.Need-kept-requires
 kept-requires c κs = search needs
 
--- src/reader.rt:256:1
 returns-2 : tie.Need-returns-2
 unfolding yetToCome
 returns-2 c =

@@ -4,9 +4,6 @@ use Rattle.sheet.specs.Usual.{UsualRight}
 use borrow.Author.Needs.{needs}
 use Rattle.samples.proofs.reader.usual_later.Statement.{statement}
 use Rattle.samples.proofs.reader.usual_later.Tie as tie
-use Rattle.samples.proofs.reader.usual_later.Reads as reads
-use Rattle.samples.proofs.reader.usual_later.Lts as lts
-use Rattle.sheet.proofs.usual.usual_row.Reads as usual-row-reads
 
 usual-row-requires : tie.Need-usual-row-requires
 usual-row-requires c κs = search needs

@@ -5,34 +5,25 @@ use borrow.Author.Needs.{needs}
 use Rattle.samples.proofs.LineLaws.{no-byte, cr-dropped, no-cr}
 use Rattle.samples.proofs.reader.without_cr.Statement.{statement}
 use Rattle.samples.proofs.reader.without_cr.Tie as tie
-use Rattle.samples.proofs.reader.without_cr.Reads as reads
-use Rattle.samples.proofs.reader.without_cr.Lts as lts
 
--- src/reader.rt:65:9
 returns : tie.Need-returns
 returns c = no-byte _ (c .if1 .taken)
 
--- src/reader.rt:67:13
 sub-if2 : tie.Need-sub-if2
 sub-if2 c = search needs
 
--- src/reader.rt:67:8
 shared-slice-read-if2 : tie.Need-shared-slice-read-if2
 shared-slice-read-if2 c = search needs
 
--- src/reader.rt:68:24
 sub-result : tie.Need-sub-result
 sub-result c = search needs
 
--- src/reader.rt:68:9
 slice-aggregate-result : tie.Need-slice-aggregate-result
 slice-aggregate-result c = simp length-take (omega arith)
 
--- src/reader.rt:68:9
 returns-2 : tie.Need-returns-2
 returns-2 c = cr-dropped _ _ (omega arith) (c .before .if2 .taken)
 
--- src/reader.rt:60:1
 returns-3 : tie.Need-returns-3
 returns-3 c = no-cr _ _ (omega arith) (c .if2 .left)
 

@@ -4,26 +4,19 @@ use borrow.Author.Needs.{needs}
 use Rattle.samples.proofs.StageLaws.{first-taken}
 use Rattle.samples.proofs.stage.after_first.Statement.{statement}
 use Rattle.samples.proofs.stage.after_first.Tie as tie
-use Rattle.samples.proofs.stage.after_first.Reads as reads
-use Rattle.samples.proofs.stage.after_first.Lts as lts
 
--- src/stage.rt:65:26
 enum-known-row : tie.Need-enum-known-row
 enum-known-row c = search needs
 
--- src/stage.rt:69:25
 enum-known-row-2 : tie.Need-enum-known-row-2
 enum-known-row-2 c = search needs
 
--- src/stage.rt:71:17
 returns : tie.Need-returns
 returns c = λ l ls e. rw (c .before .before .before .row2 .given .1, eq-eqb _ 0 (c .if1 .taken)) at (first-taken (c .before .before .before .before .before .args .columns) l ls (c .before .before .before .before .before .args .row) e)
 
--- src/stage.rt:61:1
 returns-2 : tie.Need-returns-2
 returns-2 c = λ l ls e. rw (c .before .row .given .1) at (first-taken (c .before .before .before .args .columns) l ls (c .before .before .before .args .row) e)
 
--- src/stage.rt:61:1
 returns-3 : tie.Need-returns-3
 returns-3 c = λ l ls e. rw (c .before .before .before .row2 .given .1, ne-eqb _ 0 (c .if1 .left)) at (first-taken (c .before .before .before .before .before .args .columns) l ls (c .before .before .before .before .before .args .row) e)
 

@@ -3,22 +3,16 @@ use borrow.Author.Needs.{needs}
 use Rattle.samples.proofs.StageLaws.{heading-taken}
 use Rattle.samples.proofs.stage.after_heading.Statement.{statement}
 use Rattle.samples.proofs.stage.after_heading.Tie as tie
-use Rattle.samples.proofs.stage.after_heading.Reads as reads
-use Rattle.samples.proofs.stage.after_heading.Lts as lts
 
--- src/stage.rt:49:23
 enum-known-headed : tie.Need-enum-known-headed
 enum-known-headed c = search needs
 
--- src/stage.rt:53:25
 enum-known-headed-2 : tie.Need-enum-known-headed-2
 enum-known-headed-2 c = search needs
 
--- src/stage.rt:44:1
 returns : tie.Need-returns
 returns c = λ l ls e. rw (c .before .headed .given .1) at (heading-taken l ls (c .before .before .before .args .headed) e)
 
--- src/stage.rt:44:1
 returns-2 : tie.Need-returns-2
 returns-2 c = λ l ls e. rw (c .before .headed2 .given .1) at (heading-taken l ls (c .before .before .before .args .headed) e)
 

@@ -4,26 +4,19 @@ use borrow.Author.Needs.{needs}
 use Rattle.samples.proofs.StageLaws.{later-taken}
 use Rattle.samples.proofs.stage.after_later.Statement.{statement}
 use Rattle.samples.proofs.stage.after_later.Tie as tie
-use Rattle.samples.proofs.stage.after_later.Reads as reads
-use Rattle.samples.proofs.stage.after_later.Lts as lts
 
--- src/stage.rt:89:26
 enum-known-row : tie.Need-enum-known-row
 enum-known-row c = search needs
 
--- src/stage.rt:93:25
 enum-known-row-2 : tie.Need-enum-known-row-2
 enum-known-row-2 c = search needs
 
--- src/stage.rt:96:17
 returns : tie.Need-returns
 returns c = λ l ls n is e. rw (c .before .before .row2 .given .1, lt-ltb _ _ (c .if1 .taken)) at (later-taken (c .before .before .before .before .args .columns) l ls (c .before .before .before .before .args .last) n (c .before .before .before .before .args .line) is (c .before .before .before .before .args .row) e)
 
--- src/stage.rt:85:1
 returns-2 : tie.Need-returns-2
 returns-2 c = λ l ls n is e. rw (c .before .row .given .1) at (later-taken (c .before .before .before .args .columns) l ls (c .before .before .before .args .last) n (c .before .before .before .args .line) is (c .before .before .before .args .row) e)
 
--- src/stage.rt:85:1
 returns-3 : tie.Need-returns-3
 returns-3 c = λ l ls n is e. rw (c .before .before .row2 .given .1, le-ltb _ _ (c .if1 .left)) at (later-taken (c .before .before .before .before .args .columns) l ls (c .before .before .before .before .args .last) n (c .before .before .before .before .args .line) is (c .before .before .before .before .args .row) e)
 

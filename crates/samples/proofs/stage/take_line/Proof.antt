@@ -3,78 +3,55 @@ use borrow.Author.Needs.{needs}
 use Rattle.samples.proofs.StageLaws.{refused-taken}
 use Rattle.samples.proofs.stage.take_line.Statement.{statement}
 use Rattle.samples.proofs.stage.take_line.Tie as tie
-use Rattle.samples.proofs.stage.take_line.Reads as reads
-use Rattle.samples.proofs.stage.take_line.Lts as lts
-use Rattle.sheet.proofs.headings.heading_line.Reads as heading-line-reads
-use Rattle.sheet.proofs.rows.read_row.Reads as read-row-reads
-use Rattle.samples.proofs.stage.after_first.Reads as after-first-reads
-use Rattle.samples.proofs.stage.after_heading.Reads as after-heading-reads
-use Rattle.samples.proofs.stage.after_later.Reads as after-later-reads
-use Rattle.samples.proofs.stage.next_line.Reads as next-line-reads
 
--- src/stage.rt:114:41
 enum-told : tie.Need-enum-told
 enum-told c = search needs
 
--- src/stage.rt:114:41
 heading-line-requires : tie.Need-heading-line-requires
 heading-line-requires c κs = search needs
 
--- src/stage.rt:114:27
 after-heading-requires : tie.Need-after-heading-requires
 after-heading-requires c κs = search needs
 
--- src/stage.rt:115:25
 enum-known-stage : tie.Need-enum-known-stage
 enum-known-stage c = search needs
 
--- src/stage.rt:115:58
 read-row-requires : tie.Need-read-row-requires
 read-row-requires c κs = search needs
 
--- src/stage.rt:115:37
 after-first-requires : tie.Need-after-first-requires
 after-first-requires c κs = search needs
 
--- src/stage.rt:116:26
 enum-known-stage-2 : tie.Need-enum-known-stage-2
 enum-known-stage-2 c = search needs
 
--- src/stage.rt:117:17
 next-line-requires : tie.Need-next-line-requires
 next-line-requires c κs = search needs
 
--- src/stage.rt:118:46
 read-row-requires-2 : tie.Need-read-row-requires-2
 read-row-requires-2 c κs = search needs
 
--- src/stage.rt:118:13
 after-later-requires : tie.Need-after-later-requires
 after-later-requires c κs = search needs
 
--- src/stage.rt:120:24
 enum-known-stage-3 : tie.Need-enum-known-stage-3
 enum-known-stage-3 c = search needs
 
--- src/stage.rt:110:1
 returns : tie.Need-returns
 returns c =
     let told = c .before .before in
     λ ls. rw (told .enum-told .given .1) (c .after-heading .ensures _ ls (c .before .heading-line .ensures))
 
--- src/stage.rt:113:1
 returns-2 : tie.Need-returns-2
 returns-2 c =
     let stage = c .before .before .before in
     λ ls. rw (stage .stage .given .1) (c .after-first .ensures _ ls (c .before .read-row .ensures))
 
--- src/stage.rt:113:1
 returns-3 : tie.Need-returns-3
 returns-3 c =
     let line = c .before .before in
     λ ls. rw (line .before .before .stage2 .given .1) (c .after-later .ensures _ ls _ (line .next-line .ensures) (c .before .read-row2 .ensures))
 
--- src/stage.rt:113:1
 returns-4 : tie.Need-returns-4
 returns-4 c = λ ls. rw (c .before .stage3 .given .1) (refused-taken _ _ ls)
 

@@ -3,38 +3,28 @@ use borrow.Author.Needs.{needs}
 use Rattle.samples.proofs.StageLaws.{end-heading, end-first, end-later, end-refused}
 use Rattle.samples.proofs.stage.verdict_at.Statement.{statement}
 use Rattle.samples.proofs.stage.verdict_at.Tie as tie
-use Rattle.samples.proofs.stage.verdict_at.Reads as reads
-use Rattle.samples.proofs.stage.verdict_at.Lts as lts
 
--- src/stage.rt:144:44
 enum-told : tie.Need-enum-told
 enum-told c = search needs
 
--- src/stage.rt:145:48
 enum-told-2 : tie.Need-enum-told-2
 enum-told-2 c = search needs
 
--- src/stage.rt:146:38
 enum-told-3 : tie.Need-enum-told-3
 enum-told-3 c = search needs
 
--- src/stage.rt:147:24
 enum-known-stage : tie.Need-enum-known-stage
 enum-known-stage c = search needs
 
--- src/stage.rt:140:1
 returns : tie.Need-returns
 returns c = rw (c .enum-told .given .1) end-heading
 
--- src/stage.rt:140:1
 returns-2 : tie.Need-returns-2
 returns-2 c = rw (c .enum-told2 .given .1) (end-first _)
 
--- src/stage.rt:140:1
 returns-3 : tie.Need-returns-3
 returns-3 c = rw (c .enum-told3 .given .1) (end-later _ _ _)
 
--- src/stage.rt:140:1
 returns-4 : tie.Need-returns-4
 returns-4 c = rw (c .before .stage .given .1) (end-refused _)
 

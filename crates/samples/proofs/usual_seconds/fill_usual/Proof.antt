@@ -4,19 +4,14 @@ use native.Mathlib.Omega.{arith}
 use lib.ListN.{length}
 use borrow.Author.Needs.{needs}
 use Rattle.samples.specs.Streamed.{UsualLater}
-use Rattle.samples.specs.Held.{toldAt, GoesOn}
+use Rattle.samples.specs.Held.{fillStateAt, GoesOn}
 use Rattle.samples.proofs.UsualSeconds.{none-told, second-told, row-told}
 use Rattle.samples.proofs.usual_seconds.fill_usual.Statement.{statement}
 use Rattle.samples.proofs.usual_seconds.fill_usual.Tie as tie
-use Rattle.samples.proofs.usual_seconds.fill_usual.Reads as reads
-use Rattle.samples.proofs.usual_seconds.fill_usual.Lts as lts
-use Rattle.samples.proofs.reader.usual_later.Reads as usual-later-reads
-use Rattle.samples.proofs.stage.next_line.Reads as next-line-reads
-use Rattle.samples.proofs.usual_seconds.told_at.Reads as told-at-reads
 
 abbrev Inv-loop : tie.InvT-loop
 Inv-loop at from first places chunk loads₀ solars₀ sheddables₀ columns line₀ now₀ row₀ next₀ i₀ loads solars sheddables line now row next i =
-    GoesOn (toldAt columns line₀ now₀ row₀ next₀ i₀) first places chunk loads₀ solars₀ sheddables₀ (toldAt columns line now row next i) loads solars sheddables
+    GoesOn (fillStateAt columns line₀ now₀ row₀ next₀ i₀) first places chunk loads₀ solars₀ sheddables₀ (fillStateAt columns line now row next i) loads solars sheddables
 
 abbrev μ-loop : tie.MeasureT-loop
 μ-loop at from first places chunk loads₀ solars₀ sheddables₀ columns line₀ now₀ row₀ next₀ i₀ loads solars sheddables line now row next i =
@@ -69,8 +64,8 @@ enum-known-usual c = search needs
 enum-told : tie.Need-enum-told Inv-loop μ-loop
 enum-told c = search needs
 
-told-at-requires : tie.Need-told-at-requires Inv-loop μ-loop
-told-at-requires c κs = search needs
+fill-state-at-requires : tie.Need-fill-state-at-requires Inv-loop μ-loop
+fill-state-at-requires c κs = search needs
 
 same-length : tie.Need-same-length Inv-loop μ-loop
 same-length c = c .before .before .before .before .before .before .before .loop .inv .sameLoads
@@ -82,7 +77,7 @@ same-length-3 : tie.Need-same-length-3 Inv-loop μ-loop
 same-length-3 c = c .before .before .before .before .before .before .before .loop .inv .sameSheddables
 
 returns : tie.Need-returns Inv-loop μ-loop
-returns c = rw (c .told-at .ensures) (c .before .before .before .before .before .before .before .loop .inv)
+returns c = rw (c .fill-state-at .ensures) (c .before .before .before .before .before .before .before .loop .inv)
 
 next-line-requires : tie.Need-next-line-requires Inv-loop μ-loop
 next-line-requires c κs = search needs
@@ -101,8 +96,8 @@ loop-again-2 c =
     let u : UsualLater (a .rows .columns) (c .before .before .before .before .before .before .before .before .loop .row .at) (a .chunk .now) (c .before .before .before .before .before .before .before .before .loop .next) (usual .0 .0) (usual .0 .1 .0) = rw (usual .1) at (c .before .before .before .before .usual-later .ensures) in
     rw (c .next-line .ensures) (row-told _ (a .first) (a .places) (a .chunk .now) (a .loads .now) (a .solars .now) (a .sheddables .now) (a .rows .columns) (c .before .before .before .before .before .before .before .before .loop .line) (c .before .before .before .before .before .before .before .before .loop .now) (c .before .before .before .before .before .before .before .before .loop .row) (c .before .before .before .before .before .before .before .before .loop .next) (c .before .before .before .before .before .before .before .before .loop .i) (c .before .before .before .before .before .before .before .before .loop .loads) (c .before .before .before .before .before .before .before .before .loop .solars) (c .before .before .before .before .before .before .before .before .loop .sheddables) (c .before .before .before .before .before .before .before .before .loop .inv) (omega (arith, c .before .before .before .before .before .if1 .left, c .before .before .before .before .before .before .wide .ensures .0)) (usual .0 .0) (usual .0 .1 .0) u)
 
-told-at-requires-2 : tie.Need-told-at-requires-2 Inv-loop μ-loop
-told-at-requires-2 c κs = search needs
+fill-state-at-requires-2 : tie.Need-fill-state-at-requires-2 Inv-loop μ-loop
+fill-state-at-requires-2 c κs = search needs
 
 same-length-4 : tie.Need-same-length-4 Inv-loop μ-loop
 same-length-4 c = c .before .before .loop .inv .sameLoads
@@ -114,7 +109,7 @@ same-length-6 : tie.Need-same-length-6 Inv-loop μ-loop
 same-length-6 c = c .before .before .loop .inv .sameSheddables
 
 returns-2 : tie.Need-returns-2 Inv-loop μ-loop
-returns-2 c = rw (c .told-at2 .ensures) (c .before .before .loop .inv)
+returns-2 c = rw (c .fill-state-at2 .ensures) (c .before .before .loop .inv)
 
 pub fill-usual-spec : {M : Type 1} → statement M
 fill-usual-spec =
@@ -137,7 +132,7 @@ fill-usual-spec =
     usual-later-requires
     enum-known-usual
     enum-told
-    told-at-requires
+    fill-state-at-requires
     same-length
     same-length-2
     same-length-3
@@ -145,7 +140,7 @@ fill-usual-spec =
     next-line-requires
     loop-less-2
     loop-again-2
-    told-at-requires-2
+    fill-state-at-requires-2
     same-length-4
     same-length-5
     same-length-6

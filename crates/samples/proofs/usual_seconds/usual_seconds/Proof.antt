@@ -5,9 +5,6 @@ use borrow.Author.Needs.{needs}
 use Rattle.samples.proofs.UsualSeconds.{none-told, goes-on-from}
 use Rattle.samples.proofs.usual_seconds.usual_seconds.Statement.{statement}
 use Rattle.samples.proofs.usual_seconds.usual_seconds.Tie as tie
-use Rattle.samples.proofs.usual_seconds.usual_seconds.Reads as reads
-use Rattle.samples.proofs.usual_seconds.usual_seconds.Lts as lts
-use Rattle.samples.proofs.usual_seconds.fill_usual.Reads as fill-usual-reads
 
 enum-known-stage : tie.Need-enum-known-stage
 enum-known-stage c = search needs

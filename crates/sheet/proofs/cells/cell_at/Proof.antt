@@ -6,38 +6,28 @@ use borrow.Author.Needs.{needs}
 use Rattle.sheet.proofs.CellLaws.{cell-to, cell-past, cell-whole}
 use Rattle.sheet.proofs.cells.cell_at.Statement.{statement}
 use Rattle.sheet.proofs.cells.cell_at.Tie as tie
-use Rattle.sheet.proofs.cells.cell_at.Reads as reads
-use Rattle.sheet.proofs.cells.cell_at.Lts as lts
-use Rattle.bytes.proofs.scan.find.Reads as find-reads
 
--- src/cells.rt:12:13
 find-requires : tie.Need-find-requires
 find-requires c κs = search needs
 
--- src/cells.rt:13:9
 sub-result : tie.Need-sub-result
 sub-result c = search needs
 
--- src/cells.rt:13:9
 part-result-start : tie.Need-part-result-start
 part-result-start c = search needs
 
--- src/cells.rt:13:9
 part-result-end : tie.Need-part-result-end
 part-result-end c = search needs
 
--- src/cells.rt:15:9
 slice-aggregate-result : tie.Need-slice-aggregate-result
 slice-aggregate-result c = search needs
 
--- src/cells.rt:7:1
 returns : tie.Need-returns
 returns c =
     let a = c .before .before .before .before .args in
     let e = ap (λ n. take (n - a .at) (drop (a .at) (a .line .now))) (c .before .find .ensures .0) ∙ cell-to (a .line .now) (a .at) in
     (e, e ∙ cell-whole (a .line .now) (a .at) ∙ sym (ap (λ l. take (length l) (drop (a .at) (a .line .now))) e))
 
--- src/cells.rt:7:1
 returns-2 : tie.Need-returns-2
 returns-2 c = (cell-past _ _ (c .before .if1 .left), search needs)
 

@@ -7,10 +7,6 @@ use Rattle.rules.specs.SampleFile.{sampleSheet, timeCell, powerCell, cell}
 use borrow.Author.Needs.{needs}
 use Rattle.sheet.proofs.numbers.cell_under.Statement.{statement}
 use Rattle.sheet.proofs.numbers.cell_under.Tie as tie
-use Rattle.sheet.proofs.numbers.cell_under.Reads as reads
-use Rattle.sheet.proofs.numbers.cell_under.Lts as lts
-use Rattle.sheet.proofs.numbers.power.Reads as power-reads
-use Rattle.sheet.proofs.numbers.time.Reads as time-reads
 
 module _ (line : ℕ) (s : List ℕ) where
   time-under : (name : ℕ) → name ≡ 0 → timeCell line 316_223_999 s ≡ cell line (sampleSheet .limits) name s
@@ -34,27 +30,21 @@ module _ (line : ℕ) (s : List ℕ) where
   power-beyond (suc (suc (suc zero))) h = absurd (omega arith)
   power-beyond (suc (suc (suc (suc name)))) h = refl
 
--- src/numbers.rt:124:9
 time-requires : tie.Need-time-requires
 time-requires c κs = search needs
 
--- src/numbers.rt:124:9
 returns : tie.Need-returns
 returns c = λ line. c .time .ensures line ∙ time-under line _ _ (c .before .if1 .taken)
 
--- src/numbers.rt:127:9
 power-requires : tie.Need-power-requires
 power-requires c κs = search needs
 
--- src/numbers.rt:127:9
 returns-2 : tie.Need-returns-2
 returns-2 c = λ line. c .power .ensures line ∙ power-under line _ _ (c .before .before .if1 .left) (c .before .if2 .taken)
 
--- src/numbers.rt:129:5
 power-requires-2 : tie.Need-power-requires-2
 power-requires-2 c κs = search needs
 
--- src/numbers.rt:120:1
 returns-3 : tie.Need-returns-3
 returns-3 c = λ line. c .power2 .ensures line ∙ power-beyond line _ _ (c .before .if2 .left)
 

@@ -10,9 +10,6 @@ use Rattle.sheet.specs.Digits.{formed}
 use Rattle.sheet.proofs.DigitLaws.{toRead, read-short, read-long, read-first, read-low, read-high, read-digit, read-end, below-more, below-most}
 use Rattle.sheet.proofs.numbers.digits_of.Statement.{statement}
 use Rattle.sheet.proofs.numbers.digits_of.Tie as tie
-use Rattle.sheet.proofs.numbers.digits_of.Reads as reads
-use Rattle.sheet.proofs.numbers.digits_of.Lts as lts
-use Rattle.words.proofs.arithmetic.byte_u32.Reads as byte-u32-reads
 
 abbrev Inv-loop : tie.InvT-loop
 Inv-loop part most number₀ i₀ number i =
@@ -21,51 +18,39 @@ Inv-loop part most number₀ i₀ number i =
 abbrev μ-loop : tie.MeasureT-loop
 μ-loop part most number₀ i₀ number i = length part - i
 
--- src/numbers.rt:41:9
 returns : tie.Need-returns Inv-loop μ-loop
 returns c = read-short _ _ (c .if1 .taken)
 
--- src/numbers.rt:44:9
 returns-2 : tie.Need-returns-2 Inv-loop μ-loop
 returns-2 c = read-long _ _ (c .before .if1 .left) (c .if2 .taken)
 
--- src/numbers.rt:48:5
 loop-holds : tie.Need-loop-holds Inv-loop μ-loop
 loop-holds c = (search needs, omega arith, omega arith, read-first _ _ (c .before .if1 .left) (c .if2 .left))
 
--- src/numbers.rt:49:20
 shared-slice-read-byte : tie.Need-shared-slice-read-byte Inv-loop μ-loop
 shared-slice-read-byte c = search needs
 
--- src/numbers.rt:51:13
 returns-3 : tie.Need-returns-3 Inv-loop μ-loop
 returns-3 c = sym (c .before .before .before .loop .inv .3 ∙ read-low _ _ _ (c .before .before .loop-test .taken) (c .if3 .taken))
 
--- src/numbers.rt:54:13
 returns-4 : tie.Need-returns-4 Inv-loop μ-loop
 returns-4 c = sym (c .before .before .before .before .loop .inv .3 ∙ read-high _ _ _ (c .before .before .before .loop-test .taken) (c .before .if3 .left) (c .if4 .taken))
 
--- src/numbers.rt:56:18
 mul-number : tie.Need-mul-number Inv-loop μ-loop
 mul-number c = omega (arith, below-most (c .before .before .before .before .loop .i) 8 (c .before .before .before .before .loop .number) (omega arith) (c .before .before .before .before .loop .inv .2))
 
--- src/numbers.rt:56:32
 byte-u32-requires : tie.Need-byte-u32-requires Inv-loop μ-loop
 byte-u32-requires c κs = search needs
 
--- src/numbers.rt:56:18
 add-number : tie.Need-add-number Inv-loop μ-loop
 add-number c = omega (arith, below-most (c .before .before .before .before .before .loop .i) 8 (c .before .before .before .before .before .loop .number) (omega arith) (c .before .before .before .before .before .loop .inv .2))
 
--- src/numbers.rt:57:9
 add-i : tie.Need-add-i Inv-loop μ-loop
 add-i c = search needs
 
--- src/numbers.rt:48:5
 loop-less : tie.Need-loop-less Inv-loop μ-loop
 loop-less c = search needs
 
--- src/numbers.rt:48:5
 loop-again : tie.Need-loop-again Inv-loop μ-loop
 loop-again c =
     let at = c .before .before .before .before .before .loop in
@@ -76,7 +61,6 @@ loop-again c =
       rw e (at .inv .3 ∙ read-digit _ _ _ (c .before .before .before .before .loop-test .taken) (c .before .before .if3 .left) (c .before .if4 .left)),
     )
 
--- src/numbers.rt:36:1
 returns-5 : tie.Need-returns-5 Inv-loop μ-loop
 returns-5 c = sym (c .before .loop .inv .3 ∙ read-end _ _ _ (c .loop-test .left))
 

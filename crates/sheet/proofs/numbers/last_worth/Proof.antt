@@ -4,22 +4,16 @@ use mathlib.Core.Path.{_≡_}
 use native.Mathlib.Omega.{arith}
 use Rattle.sheet.proofs.numbers.last_worth.Statement.{statement}
 use Rattle.sheet.proofs.numbers.last_worth.Tie as tie
-use Rattle.sheet.proofs.numbers.last_worth.Reads as reads
-use Rattle.sheet.proofs.numbers.last_worth.Lts as lts
 
--- src/numbers.rt:63:1
 returns : tie.Need-returns
 returns c = (rw (c .match .keys1), omega arith)
 
--- src/numbers.rt:63:1
 returns-2 : tie.Need-returns-2
 returns-2 c = (rw (c .match .keys2), omega arith)
 
--- src/numbers.rt:63:1
 returns-3 : tie.Need-returns-3
 returns-3 c = (rw (c .match .keys3), omega arith)
 
--- src/numbers.rt:63:1
 returns-4 : tie.Need-returns-4
 returns-4 c =
     let k = c .match .rest in

@@ -5,26 +5,19 @@ use Rattle.sheet.proofs.DigitLaws.{formed-number, formed-none}
 use borrow.Author.Needs.{needs}
 use Rattle.sheet.proofs.numbers.limited.Statement.{statement}
 use Rattle.sheet.proofs.numbers.limited.Tie as tie
-use Rattle.sheet.proofs.numbers.limited.Reads as reads
-use Rattle.sheet.proofs.numbers.limited.Lts as lts
 
--- src/numbers.rt:96:24
 enum-known-number : tie.Need-enum-known-number
 enum-known-number c = search needs
 
--- src/numbers.rt:97:9
 enum-told : tie.Need-enum-told
 enum-told c = search needs
 
--- src/numbers.rt:97:9
 returns : tie.Need-returns
 returns c = λ line form v e. rw (formed-none form v (sym (c .enum-told .given .1) ∙ e))
 
--- src/numbers.rt:100:9
 returns-2 : tie.Need-returns-2
 returns-2 c = λ line form v e. let t = formed-number form v _ (sym (c .before .before .number .given .1) ∙ e) in rw (t .0, ← t .1, lt-leb _ _ (c .if1 .taken))
 
--- src/numbers.rt:93:1
 returns-3 : tie.Need-returns-3
 returns-3 c = λ line form v e. let t = formed-number form v _ (sym (c .before .before .number .given .1) ∙ e) in rw (t .0, ← t .1, le-leb _ _ (c .if1 .left))
 

@@ -4,20 +4,13 @@ use Rattle.rules.specs.SampleFile.{powerForm, powerValue, powerCell}
 use borrow.Author.Needs.{needs}
 use Rattle.sheet.proofs.numbers.power.Statement.{statement}
 use Rattle.sheet.proofs.numbers.power.Tie as tie
-use Rattle.sheet.proofs.numbers.power.Reads as reads
-use Rattle.sheet.proofs.numbers.power.Lts as lts
-use Rattle.sheet.proofs.numbers.limited.Reads as limited-reads
-use Rattle.sheet.proofs.numbers.watts_of.Reads as watts-of-reads
 
--- src/numbers.rt:116:19
 watts-of-requires : tie.Need-watts-of-requires
 watts-of-requires c κs = search needs
 
--- src/numbers.rt:116:5
 limited-requires : tie.Need-limited-requires
 limited-requires c κs = search needs
 
--- src/numbers.rt:113:1
 returns : tie.Need-returns
 unfolding powerCell
 returns c =

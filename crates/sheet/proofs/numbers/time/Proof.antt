@@ -4,20 +4,13 @@ use Rattle.rules.specs.SampleFile.{timeCell}
 use borrow.Author.Needs.{needs}
 use Rattle.sheet.proofs.numbers.time.Statement.{statement}
 use Rattle.sheet.proofs.numbers.time.Tie as tie
-use Rattle.sheet.proofs.numbers.time.Reads as reads
-use Rattle.sheet.proofs.numbers.time.Lts as lts
-use Rattle.sheet.proofs.numbers.digits_of.Reads as digits-of-reads
-use Rattle.sheet.proofs.numbers.limited.Reads as limited-reads
 
--- src/numbers.rt:109:19
 digits-of-requires : tie.Need-digits-of-requires
 digits-of-requires c κs = search needs
 
--- src/numbers.rt:109:5
 limited-requires : tie.Need-limited-requires
 limited-requires c κs = search needs
 
--- src/numbers.rt:106:1
 returns : tie.Need-returns
 unfolding timeCell
 returns c =

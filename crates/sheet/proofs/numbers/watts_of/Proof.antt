@@ -12,11 +12,6 @@ use Rattle.sheet.proofs.PowerLaws.{point-at, power-none, power-whole, p
 use borrow.Author.Needs.{needs}
 use Rattle.sheet.proofs.numbers.watts_of.Statement.{statement}
 use Rattle.sheet.proofs.numbers.watts_of.Tie as tie
-use Rattle.sheet.proofs.numbers.watts_of.Reads as reads
-use Rattle.sheet.proofs.numbers.watts_of.Lts as lts
-use Rattle.bytes.proofs.scan.find.Reads as find-reads
-use Rattle.sheet.proofs.numbers.digits_of.Reads as digits-of-reads
-use Rattle.sheet.proofs.numbers.last_worth.Reads as last-worth-reads
 
 -- the cell, and what stands before and after its first point
 abbrev cellIn : tie.After-find → List ℕ
@@ -44,72 +39,56 @@ decimals-small c =
     let p = fraction-read (c .before .before) .below in
     mul-le-mul {n₂ = 999} {m₂ = 1000} (omega arith) (c .last-worth .ensures .1)
 
--- src/numbers.rt:78:9
 find-requires : tie.Need-find-requires
 find-requires c κs = search needs
 
--- src/numbers.rt:79:43
 slice-aggregate-digits-of : tie.Need-slice-aggregate-digits-of
 slice-aggregate-digits-of c = simp length-take (omega arith)
 
--- src/numbers.rt:79:33
 digits-of-requires : tie.Need-digits-of-requires
 digits-of-requires c κs = search needs
 
--- src/numbers.rt:79:24
 enum-known-whole : tie.Need-enum-known-whole
 enum-known-whole c = search needs
 
--- src/numbers.rt:80:9
 enum-told : tie.Need-enum-told
 enum-told c = search needs
 
--- src/numbers.rt:80:9
 returns : tie.Need-returns
 returns c =
     let f = c .before .before .before .before in
     sym (power-none (cellIn f) _ (point-is f) (formed-none (digits 6 (wholeIn f)) (value (wholeIn f)) (sym (c .enum-told .given .1) ∙ c .before .before .digits-of .ensures)))
 
--- src/numbers.rt:83:31
 mul-t11 : tie.Need-mul-t11
 mul-t11 c = omega (arith, whole-read (c .before .before) .below)
 
--- src/numbers.rt:83:9
 returns-2 : tie.Need-returns-2
 returns-2 c =
     let w = whole-read (c .before .before) in
     let f = c .before .before .before .before .before .before in
     rw (power-whole (cellIn f) (f .find .result) (point-is f) (c .if1 .taken), w .form, w .is)
 
--- src/numbers.rt:85:26
 add-decimals : tie.Need-add-decimals
 add-decimals c = search needs
 
--- src/numbers.rt:85:20
 sub-decimals : tie.Need-sub-decimals
 sub-decimals c = search needs
 
--- src/numbers.rt:85:20
 part-decimals-start : tie.Need-part-decimals-start
 part-decimals-start c = search needs
 
--- src/numbers.rt:85:20
 part-decimals-end : tie.Need-part-decimals-end
 part-decimals-end c = search needs
 
--- src/numbers.rt:86:32
 digits-of-requires-2 : tie.Need-digits-of-requires-2
 digits-of-requires-2 c κs = search needs
 
--- src/numbers.rt:86:24
 enum-known-fraction : tie.Need-enum-known-fraction
 enum-known-fraction c = search needs
 
--- src/numbers.rt:87:9
 enum-told-2 : tie.Need-enum-told-2
 enum-told-2 c = search needs
 
--- src/numbers.rt:87:9
 returns-3 : tie.Need-returns-3
 returns-3 c =
     let f = c .before .before .before .before .before .before .before .before .before .before in
@@ -117,23 +96,18 @@ returns-3 c =
     let d = formed-none (digits 3 (decimalsIn f)) (value (decimalsIn f)) (sym (c .enum-told2 .given .1) ∙ c .before .before .digits-of2 .ensures) in
     rw (power-decimals (cellIn f) (f .find .result) (point-is f) (omega (arith, c .before .before .before .before .if1 .left)), w .form, d)
 
--- src/numbers.rt:89:20
 mul-t16 : tie.Need-mul-t16
 mul-t16 c = omega (arith, whole-read (c .before .before .before .before .before .before .before) .below)
 
--- src/numbers.rt:89:42
 last-worth-requires : tie.Need-last-worth-requires
 last-worth-requires c κs = search needs
 
--- src/numbers.rt:89:35
 mul-t18 : tie.Need-mul-t18
 mul-t18 c = omega (arith, decimals-small c)
 
--- src/numbers.rt:89:20
 add-t19 : tie.Need-add-t19
 add-t19 c = omega (arith, decimals-small c, whole-read (c .before .before .before .before .before .before .before .before) .below)
 
--- src/numbers.rt:75:1
 returns-4 : tie.Need-returns-4
 returns-4 c =
     let q = c .before .before in

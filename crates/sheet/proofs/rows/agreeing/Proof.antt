@@ -4,29 +4,21 @@ use borrow.Author.Needs.{needs}
 use Rattle.sheet.proofs.RowLaws.{above-load, row-whole}
 use Rattle.sheet.proofs.rows.agreeing.Statement.{statement}
 use Rattle.sheet.proofs.rows.agreeing.Tie as tie
-use Rattle.sheet.proofs.rows.agreeing.Reads as reads
-use Rattle.sheet.proofs.rows.agreeing.Lts as lts
-use Rattle.sheet.proofs.rows.value_under.Reads as value-under-reads
 
--- src/rows.rt:60:9
 value-under-requires : tie.Need-value-under-requires
 value-under-requires c κs = search needs
 
--- src/rows.rt:61:9
 value-under-requires-2 : tie.Need-value-under-requires-2
 value-under-requires-2 c κs = search needs
 
--- src/rows.rt:63:9
 returns : tie.Need-returns
 returns c =
     let a = c .before .before .before .args in
     above-load (a .columns) (a .line) (a .at) (a .powers .second) (a .powers .third) (a .powers .fourth) _ 0 _ (c .before .before .value-under .ensures (a .at) (omega arith)) (c .before .value-under2 .ensures (a .at) (omega arith)) (c .if1 .taken)
 
--- src/rows.rt:68:16
 value-under-requires-3 : tie.Need-value-under-requires-3
 value-under-requires-3 c κs = search needs
 
--- src/rows.rt:57:1
 returns-2 : tie.Need-returns-2
 returns-2 c =
     let a = c .before .before .before .before .args in

@@ -6,43 +6,30 @@ use Rattle.rules.specs.Answers.{refusalOf}
 use Rattle.sheet.proofs.RowLaws.{wrong-first, wrong-second, wrong-third, wrong-fourth, all-four}
 use Rattle.sheet.proofs.rows.read_cells.Statement.{statement}
 use Rattle.sheet.proofs.rows.read_cells.Tie as tie
-use Rattle.sheet.proofs.rows.read_cells.Reads as reads
-use Rattle.sheet.proofs.rows.read_cells.Lts as lts
-use Rattle.sheet.proofs.numbers.cell_under.Reads as cell-under-reads
-use Rattle.sheet.proofs.rows.agreeing.Reads as agreeing-reads
-use Rattle.sheet.proofs.rows.refusal_of.Reads as refusal-of-reads
 
--- src/rows.rt:77:9
 cell-under-requires : tie.Need-cell-under-requires
 cell-under-requires c κs = search needs
 
--- src/rows.rt:78:26
 enum-known-time : tie.Need-enum-known-time
 enum-known-time c = search needs
 
--- src/rows.rt:79:33
 refusal-of-requires : tie.Need-refusal-of-requires
 refusal-of-requires c κs = search needs
 
--- src/rows.rt:79:9
 returns : tie.Need-returns
 returns c =
     let first = c .before .before in
     ap (refusalOf {A = Sample}) (c .refusal-of .ensures) ∙ wrong-first _ _ _ _ _ _ (first .cell-under .result) (first .cell-under .ensures) (c .before .match .keys2)
 
--- src/rows.rt:81:9
 cell-under-requires-2 : tie.Need-cell-under-requires-2
 cell-under-requires-2 c κs = search needs
 
--- src/rows.rt:82:26
 enum-known-left : tie.Need-enum-known-left
 enum-known-left c = search needs
 
--- src/rows.rt:83:33
 refusal-of-requires-2 : tie.Need-refusal-of-requires-2
 refusal-of-requires-2 c κs = search needs
 
--- src/rows.rt:83:9
 returns-2 : tie.Need-returns-2
 returns-2 c =
     let second = c .before .before in
@@ -51,19 +38,15 @@ returns-2 c =
     ap (refusalOf {A = Sample}) (c .refusal-of2 .ensures)
     ∙ wrong-second _ _ _ _ _ _ _ _ (first .cell-under .ensures) (time .time .given .1) (second .cell-under2 .result) (second .cell-under2 .ensures) (c .before .match2 .keys2)
 
--- src/rows.rt:85:9
 cell-under-requires-3 : tie.Need-cell-under-requires-3
 cell-under-requires-3 c κs = search needs
 
--- src/rows.rt:86:26
 enum-known-middle : tie.Need-enum-known-middle
 enum-known-middle c = search needs
 
--- src/rows.rt:87:33
 refusal-of-requires-3 : tie.Need-refusal-of-requires-3
 refusal-of-requires-3 c κs = search needs
 
--- src/rows.rt:87:9
 returns-3 : tie.Need-returns-3
 returns-3 c =
     let third = c .before .before in
@@ -74,19 +57,15 @@ returns-3 c =
     ap (refusalOf {A = Sample}) (c .refusal-of3 .ensures)
     ∙ wrong-third _ _ _ _ _ _ _ _ (first .cell-under .ensures) (time .time .given .1) _ _ (second .cell-under2 .ensures) (left .left .given .1) (third .cell-under3 .result) (third .cell-under3 .ensures) (c .before .match3 .keys2)
 
--- src/rows.rt:89:9
 cell-under-requires-4 : tie.Need-cell-under-requires-4
 cell-under-requires-4 c κs = search needs
 
--- src/rows.rt:90:26
 enum-known-right : tie.Need-enum-known-right
 enum-known-right c = search needs
 
--- src/rows.rt:91:33
 refusal-of-requires-4 : tie.Need-refusal-of-requires-4
 refusal-of-requires-4 c κs = search needs
 
--- src/rows.rt:91:9
 returns-4 : tie.Need-returns-4
 returns-4 c =
     let fourth = c .before .before in
@@ -99,11 +78,9 @@ returns-4 c =
     ap (refusalOf {A = Sample}) (c .refusal-of4 .ensures)
     ∙ wrong-fourth _ _ _ _ _ _ _ _ (first .cell-under .ensures) (time .time .given .1) _ _ (second .cell-under2 .ensures) (left .left .given .1) _ _ (third .cell-under3 .ensures) (middle .middle .given .1) (fourth .cell-under4 .result) (fourth .cell-under4 .ensures) (c .before .match4 .keys2)
 
--- src/rows.rt:98:5
 agreeing-requires : tie.Need-agreeing-requires
 agreeing-requires c κs = search needs
 
--- src/rows.rt:74:1
 returns-5 : tie.Need-returns-5
 returns-5 c =
     let right = c .before .before in

@@ -4,63 +4,46 @@ use borrow.Author.Needs.{needs}
 use Rattle.sheet.proofs.RowCells.{line-long, one-cell, two-cells, three-cells, more-cells, four-cells}
 use Rattle.sheet.proofs.rows.read_row.Statement.{statement}
 use Rattle.sheet.proofs.rows.read_row.Tie as tie
-use Rattle.sheet.proofs.rows.read_row.Reads as reads
-use Rattle.sheet.proofs.rows.read_row.Lts as lts
-use Rattle.sheet.proofs.cells.cell_at.Reads as cell-at-reads
-use Rattle.sheet.proofs.rows.read_cells.Reads as read-cells-reads
 
--- src/rows.rt:106:9
 returns : tie.Need-returns
 returns c = line-long _ _ _ _ (c .if1 .taken)
 
--- src/rows.rt:108:9
 cell-at-requires : tie.Need-cell-at-requires
 cell-at-requires c κs = search needs
 
--- src/rows.rt:111:9
 returns-2 : tie.Need-returns-2
 returns-2 c = one-cell _ _ _ _ (c .before .before .if1 .left) _ (c .before .cell-at .ensures .0) (c .if2 .taken)
 
--- src/rows.rt:113:32
 add-cell-at : tie.Need-add-cell-at
 add-cell-at c = search needs
 
--- src/rows.rt:113:9
 cell-at-requires-2 : tie.Need-cell-at-requires-2
 cell-at-requires-2 c κs = search needs
 
--- src/rows.rt:114:22
 add-second-end : tie.Need-add-second-end
 add-second-end c = search needs
 
--- src/rows.rt:114:22
 add-second-end-2 : tie.Need-add-second-end-2
 add-second-end-2 c = search needs
 
--- src/rows.rt:116:9
 returns-3 : tie.Need-returns-3
 returns-3 c =
     let two = c .before in
     let one = two .before .before in
     two-cells _ _ _ _ (one .before .if1 .left) _ (one .cell-at .ensures .0) (two .before .if2 .left) _ (two .cell-at2 .ensures .0) (c .if3 .taken)
 
--- src/rows.rt:118:31
 add-cell-at-2 : tie.Need-add-cell-at-2
 add-cell-at-2 c = search needs
 
--- src/rows.rt:118:9
 cell-at-requires-3 : tie.Need-cell-at-requires-3
 cell-at-requires-3 c κs = search needs
 
--- src/rows.rt:119:21
 add-third-end : tie.Need-add-third-end
 add-third-end c = search needs
 
--- src/rows.rt:119:21
 add-third-end-2 : tie.Need-add-third-end-2
 add-third-end-2 c = search needs
 
--- src/rows.rt:121:9
 returns-4 : tie.Need-returns-4
 returns-4 c =
     let three = c .before in
@@ -68,23 +51,18 @@ returns-4 c =
     let one = two .before .before in
     three-cells _ _ _ _ (one .before .if1 .left) _ (one .cell-at .ensures .0) (two .before .if2 .left) _ (two .cell-at2 .ensures .0) (three .before .if3 .left) _ (three .cell-at3 .ensures .0) (c .if4 .taken)
 
--- src/rows.rt:123:32
 add-cell-at-3 : tie.Need-add-cell-at-3
 add-cell-at-3 c = search needs
 
--- src/rows.rt:123:9
 cell-at-requires-4 : tie.Need-cell-at-requires-4
 cell-at-requires-4 c κs = search needs
 
--- src/rows.rt:124:22
 add-fourth-end : tie.Need-add-fourth-end
 add-fourth-end c = search needs
 
--- src/rows.rt:124:22
 add-fourth-end-2 : tie.Need-add-fourth-end-2
 add-fourth-end-2 c = search needs
 
--- src/rows.rt:126:9
 returns-5 : tie.Need-returns-5
 returns-5 c =
     let four = c .before in
@@ -93,11 +71,9 @@ returns-5 c =
     let one = two .before .before in
     more-cells _ _ _ _ (one .before .if1 .left) _ (one .cell-at .ensures .0) (two .before .if2 .left) _ (two .cell-at2 .ensures .0) (three .before .if3 .left) _ (three .cell-at3 .ensures .0) (four .before .if4 .left) _ (four .cell-at4 .ensures .0) (c .if5 .taken)
 
--- src/rows.rt:128:5
 read-cells-requires : tie.Need-read-cells-requires
 read-cells-requires c κs = search needs
 
--- src/rows.rt:102:1
 returns-6 : tie.Need-returns-6
 returns-6 c =
     let four = c .before .before in

@@ -2,30 +2,22 @@
 use borrow.Author.Needs.{needs}
 use Rattle.sheet.proofs.rows.refusal_of.Statement.{statement}
 use Rattle.sheet.proofs.rows.refusal_of.Tie as tie
-use Rattle.sheet.proofs.rows.refusal_of.Reads as reads
-use Rattle.sheet.proofs.rows.refusal_of.Lts as lts
 
--- src/rows.rt:34:32
 enum-told : tie.Need-enum-told
 enum-told c = search needs
 
--- src/rows.rt:35:33
 enum-told-2 : tie.Need-enum-told-2
 enum-told-2 c = search needs
 
--- src/rows.rt:36:33
 enum-told-3 : tie.Need-enum-told-3
 enum-told-3 c = search needs
 
--- src/rows.rt:30:1
 returns : tie.Need-returns
 returns c = rw (c .enum-told .given .1)
 
--- src/rows.rt:30:1
 returns-2 : tie.Need-returns-2
 returns-2 c = rw (c .enum-told2 .given .1)
 
--- src/rows.rt:30:1
 returns-3 : tie.Need-returns-3
 returns-3 c = rw (c .enum-told3 .given .1)
 

@@ -6,10 +6,6 @@ use borrow.Author.Needs.{needs}
 use Rattle.sheet.proofs.UsualLaws.{Taking, taking-start, taking-digit, taken, taking-below}
 use Rattle.sheet.proofs.usual.digits_from.Statement.{statement}
 use Rattle.sheet.proofs.usual.digits_from.Tie as tie
-use Rattle.sheet.proofs.usual.digits_from.Reads as reads
-use Rattle.sheet.proofs.usual.digits_from.Lts as lts
-use Rattle.words.proofs.arithmetic.byte_u32.Reads as byte-u32-reads
-use Rattle.std.proofs.num.wrapping_sub_u32.Reads as wrapping-sub-u32-reads
 
 abbrev Inv-loop : tie.InvT-loop
 Inv-loop text at most before number₀ taken₀ number taken = (most ≤ 9) × (before < 10 ^ (9 - most)) × Taking text at most before (at + taken) number
@@ -17,55 +13,42 @@ Inv-loop text at most before number₀ taken₀ number taken = (most ≤ 9) × (
 abbrev μ-loop : tie.MeasureT-loop
 μ-loop text at most before number₀ taken₀ number taken = most - taken
 
--- src/usual.rt:51:5
 loop-holds : tie.Need-loop-holds Inv-loop μ-loop
 loop-holds c = (c .before .pre .1, c .before .pre .2, (let z : c .before .args .at ≡ c .before .args .at + 0 = omega arith in subst (λ (i : ℕ). Taking (c .before .args .text .now) (c .before .args .at) (c .before .args .most) (c .before .args .before) i (c .before .args .before)) z (taking-start (c .before .args .text .now) (c .before .args .at) (c .before .args .most) (c .before .args .before) (c .before .pre .0))))
 
--- src/usual.rt:52:17
 add-i : tie.Need-add-i Inv-loop μ-loop
 add-i c = search needs
 
--- src/usual.rt:54:53
 shared-slice-read-byte-u32 : tie.Need-shared-slice-read-byte-u32 Inv-loop μ-loop
 shared-slice-read-byte-u32 c = omega (arith, c .before .loop-test .taken, c .before .before .loop .inv .2 .within)
 
--- src/usual.rt:54:48
 byte-u32-requires : tie.Need-byte-u32-requires Inv-loop μ-loop
 byte-u32-requires c κs = search needs
 
--- src/usual.rt:54:13
 wrapping-sub-u32-requires : tie.Need-wrapping-sub-u32-requires Inv-loop μ-loop
 wrapping-sub-u32-requires c κs = search needs
 
--- src/usual.rt:56:13
 returns : tie.Need-returns Inv-loop μ-loop
 returns c = taken (c .before .before .before .before .before .before .before .args .text .now) (c .before .before .before .before .before .before .before .args .at) (c .before .before .before .before .before .before .before .args .most) (c .before .before .before .before .before .before .before .args .before) (c .before .before .before .before .before .before .before .args .at + c .before .before .before .before .before .loop .taken) (c .before .before .before .before .before .loop .number) (c .before .before .before .before .before .loop .inv .2)
 
--- src/usual.rt:58:18
 mul-number : tie.Need-mul-number Inv-loop μ-loop
 mul-number c = record { fits = omega (arith, taking-below (c .before .before .before .before .before .before .before .args .text .now) (c .before .before .before .before .before .before .before .args .at) (c .before .before .before .before .before .before .before .args .most) (c .before .before .before .before .before .before .before .args .before) (c .before .before .before .before .before .before .before .args .at + c .before .before .before .before .before .loop .taken) (c .before .before .before .before .before .loop .number) (c .before .before .before .before .before .loop .inv .2) (c .before .before .before .before .before .loop .inv .0) (c .before .before .before .before .before .loop .inv .1) (omega (arith, c .before .before .before .before .loop-test .taken)), c .if1 .left) }
 
--- src/usual.rt:58:18
 add-number : tie.Need-add-number Inv-loop μ-loop
 add-number c = record { fits = omega (arith, taking-below (c .before .before .before .before .before .before .before .args .text .now) (c .before .before .before .before .before .before .before .args .at) (c .before .before .before .before .before .before .before .args .most) (c .before .before .before .before .before .before .before .args .before) (c .before .before .before .before .before .before .before .args .at + c .before .before .before .before .before .loop .taken) (c .before .before .before .before .before .loop .number) (c .before .before .before .before .before .loop .inv .2) (c .before .before .before .before .before .loop .inv .0) (c .before .before .before .before .before .loop .inv .1) (omega (arith, c .before .before .before .before .loop-test .taken)), c .if1 .left) }
 
--- src/usual.rt:59:9
 add-taken : tie.Need-add-taken Inv-loop μ-loop
 add-taken c = search needs
 
--- src/usual.rt:51:5
 loop-less : tie.Need-loop-less Inv-loop μ-loop
 loop-less c = search needs
 
--- src/usual.rt:51:5
 loop-again : tie.Need-loop-again Inv-loop μ-loop
 loop-again c = (c .before .before .before .before .before .loop .inv .0, c .before .before .before .before .before .loop .inv .1, taking-digit (c .before .before .before .before .before .before .before .args .text .now) (c .before .before .before .before .before .before .before .args .at) (c .before .before .before .before .before .before .before .args .most) (c .before .before .before .before .before .before .before .args .before) (c .before .before .before .before .before .loop .taken) (c .before .before .before .before .before .loop .number) (c .before .wrapping-sub-u32 .result) (c .before .before .before .before .before .loop .inv .2) (c .before .before .before .before .loop-test .taken) (c .before .wrapping-sub-u32 .ensures ∙ c .before .before .byte-u32 .ensures .0) (c .if1 .left))
 
--- src/usual.rt:62:14
 add-t13 : tie.Need-add-t13 Inv-loop μ-loop
 add-t13 c = search needs
 
--- src/usual.rt:45:1
 returns-2 : tie.Need-returns-2 Inv-loop μ-loop
 returns-2 c = taken (c .before .before .before .args .text .now) (c .before .before .before .args .at) (c .before .before .before .args .most) (c .before .before .before .args .before) (c .before .before .before .args .at + c .before .loop .taken) (c .before .loop .number) (c .before .loop .inv .2)
 

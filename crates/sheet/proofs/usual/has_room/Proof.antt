@@ -3,18 +3,13 @@ use native.Mathlib.Omega.{arith}
 use Rattle.rules.proofs.Tests.{never}
 use Rattle.sheet.proofs.usual.has_room.Statement.{statement}
 use Rattle.sheet.proofs.usual.has_room.Tie as tie
-use Rattle.sheet.proofs.usual.has_room.Reads as reads
-use Rattle.sheet.proofs.usual.has_room.Lts as lts
 
--- src/usual.rt:159:9
 returns : tie.Need-returns
 returns c = λ e. never e
 
--- src/usual.rt:162:9
 returns-2 : tie.Need-returns-2
 returns-2 c = λ e. never e
 
--- src/usual.rt:155:1
 returns-3 : tie.Need-returns-3
 returns-3 c = λ e. omega arith
 

@@ -4,39 +4,28 @@ use Rattle.rules.specs.SampleFile.{powerCell}
 use Rattle.sheet.proofs.UsualLaws.{cell-taken}
 use Rattle.sheet.proofs.usual.power_after.Statement.{statement}
 use Rattle.sheet.proofs.usual.power_after.Tie as tie
-use Rattle.sheet.proofs.usual.power_after.Reads as reads
-use Rattle.sheet.proofs.usual.power_after.Lts as lts
-use Rattle.sheet.proofs.usual.power_cell.Reads as power-cell-reads
 
--- src/usual.rt:135:8
 shared-slice-read-if1 : tie.Need-shared-slice-read-if1
 shared-slice-read-if1 c = search needs
 
--- src/usual.rt:136:9
 returns : tie.Need-returns
 returns c = search needs
 
--- src/usual.rt:138:17
 add-start : tie.Need-add-start
 add-start c = search needs
 
--- src/usual.rt:140:9
 power-cell-requires : tie.Need-power-cell-requires
 power-cell-requires c κs = search needs
 
--- src/usual.rt:142:9
 returns-2 : tie.Need-returns-2
 returns-2 c = search needs
 
--- src/usual.rt:145:9
 returns-3 : tie.Need-returns-3
 returns-3 c = search needs
 
--- src/usual.rt:147:22
 add-t12 : tie.Need-add-t12
 add-t12 c = search needs
 
--- src/usual.rt:131:1
 returns-4 : tie.Need-returns-4
 returns-4 c = (c .before .before .before .before .if1 .left, cell-taken powerCell 10 50000000 _ _ _ _ (c .before .before .power-cell .ensures) (c .before .if2 .left) (c .if3 .left))
 

@@ -5,104 +5,76 @@ use Rattle.rules.specs.SampleFile.{powerCell}
 use Rattle.sheet.proofs.UsualLaws.{whole-below, whole-end, whole-part, decimals-below, decimal-part, blank-part}
 use Rattle.sheet.proofs.usual.power_cell.Statement.{statement}
 use Rattle.sheet.proofs.usual.power_cell.Tie as tie
-use Rattle.sheet.proofs.usual.power_cell.Reads as reads
-use Rattle.sheet.proofs.usual.power_cell.Lts as lts
-use Rattle.sheet.proofs.numbers.last_worth.Reads as last-worth-reads
-use Rattle.sheet.proofs.usual.digits_from.Reads as digits-from-reads
 
--- src/usual.rt:95:9
 digits-from-requires : tie.Need-digits-from-requires
 digits-from-requires c κs = search needs
 
--- src/usual.rt:98:16
 sub-result : tie.Need-sub-result
 sub-result c = search needs
 
--- src/usual.rt:98:16
 part-result-start : tie.Need-part-result-start
 part-result-start c = search needs
 
--- src/usual.rt:98:16
 part-result-end : tie.Need-part-result-end
 part-result-end c = search needs
 
--- src/usual.rt:98:9
 returns : tie.Need-returns
 returns c = blank-part powerCell 10 _ _ _
 
--- src/usual.rt:100:8
 shared-slice-read-if2 : tie.Need-shared-slice-read-if2
 shared-slice-read-if2 c = search needs
 
--- src/usual.rt:101:18
 mul-watts : tie.Need-mul-watts
 mul-watts c = record { fits = omega (arith, whole-below (c .before .before .before .before .before .before .args .text .now) (c .before .before .before .before .before .before .args .at) (c .before .before .before .before .digits-from .result) (c .before .before .before .before .digits-from .ensures)) }
 
--- src/usual.rt:102:16
 sub-result-2 : tie.Need-sub-result-2
 sub-result-2 c = search needs
 
--- src/usual.rt:102:16
 part-result-start-2 : tie.Need-part-result-start-2
 part-result-start-2 c = search needs
 
--- src/usual.rt:102:16
 part-result-end-2 : tie.Need-part-result-end-2
 part-result-end-2 c = search needs
 
--- src/usual.rt:102:9
 returns-2 : tie.Need-returns-2
 returns-2 c = whole-part (c .before .before .before .before .before .before .before .args .text .now) (c .before .before .before .before .before .before .before .args .at) (c .before .before .before .before .before .digits-from .result) (c .before .before .before .before .before .digits-from .ensures)
 
--- src/usual.rt:104:17
 add-start : tie.Need-add-start
 add-start c = search needs
 
--- src/usual.rt:105:9
 digits-from-requires-2 : tie.Need-digits-from-requires-2
 digits-from-requires-2 c κs = (omega (arith, whole-end (c .before .before .before .before .before .args .text .now) (c .before .before .before .before .before .args .at) (c .before .before .before .digits-from .result) (c .before .before .before .digits-from .ensures), c .before .before .before .before .before .pre), omega arith, whole-below (c .before .before .before .before .before .args .text .now) (c .before .before .before .before .before .args .at) (c .before .before .before .digits-from .result) (c .before .before .before .digits-from .ensures))
 
--- src/usual.rt:108:16
 sub-result-3 : tie.Need-sub-result-3
 sub-result-3 c = search needs
 
--- src/usual.rt:108:16
 part-result-start-3 : tie.Need-part-result-start-3
 part-result-start-3 c = search needs
 
--- src/usual.rt:108:16
 part-result-end-3 : tie.Need-part-result-end-3
 part-result-end-3 c = search needs
 
--- src/usual.rt:108:9
 returns-3 : tie.Need-returns-3
 returns-3 c = blank-part powerCell 10 _ _ _
 
--- src/usual.rt:110:38
 sub-last-worth : tie.Need-sub-last-worth
 sub-last-worth c = search needs
 
--- src/usual.rt:110:27
 last-worth-requires : tie.Need-last-worth-requires
 last-worth-requires c κs = search needs
 
--- src/usual.rt:110:14
 mul-watts-2 : tie.Need-mul-watts-2
 mul-watts-2 c = record { fits = omega (arith, decimals-below (c .before .before .before .before .before .before .before .before .before .args .text .now) (c .before .before .before .before .before .before .before .before .before .args .at) (c .before .before .before .before .before .before .before .digits-from .result) (c .before .before .before .before .before .before .before .digits-from .ensures) (c .before .before .before .digits-from2 .result) (c .before .before .before .digits-from2 .ensures) (c .before .last-worth .result) (c .before .last-worth .ensures .0)) }
 
--- src/usual.rt:111:5
 sub-result-4 : tie.Need-sub-result-4
 sub-result-4 c = search needs
 
--- src/usual.rt:111:5
 part-result-start-4 : tie.Need-part-result-start-4
 part-result-start-4 c = search needs
 
--- src/usual.rt:111:5
 part-result-end-4 : tie.Need-part-result-end-4
 part-result-end-4 c = search needs
 
--- src/usual.rt:91:1
 returns-4 : tie.Need-returns-4
 returns-4 c = decimal-part (c .before .before .before .before .before .before .before .before .before .before .args .text .now) (c .before .before .before .before .before .before .before .before .before .before .args .at) (c .before .before .before .before .before .before .before .before .digits-from .result) (c .before .before .before .before .before .before .before .before .digits-from .ensures) (c .before .before .before .before .digits-from2 .result) (c .before .before .before .before .digits-from2 .ensures) (c .before .before .last-worth .result) (c .before .before .last-worth .ensures .0) (omega (arith, whole-end (c .before .before .before .before .before .before .before .before .before .before .args .text .now) (c .before .before .before .before .before .before .before .before .before .before .args .at) (c .before .before .before .before .before .before .before .before .digits-from .result) (c .before .before .before .before .before .before .before .before .digits-from .ensures), c .before .before .before .before .before .before .before .before .before .before .pre)) (c .before .before .before .before .before .if2 .left) (c .before .before .before .before .before .before .before .if1 .left) (c .before .before .before .if3 .left)
 

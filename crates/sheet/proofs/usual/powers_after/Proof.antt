@@ -9,9 +9,6 @@ use Rattle.sheet.specs.Usual.{PowerTaken, PowersTaken, powerOf}
 use Rattle.sheet.proofs.PowersLaws.{powers-end, power-more}
 use Rattle.sheet.proofs.usual.powers_after.Statement.{statement}
 use Rattle.sheet.proofs.usual.powers_after.Tie as tie
-use Rattle.sheet.proofs.usual.powers_after.Reads as reads
-use Rattle.sheet.proofs.usual.powers_after.Lts as lts
-use Rattle.sheet.proofs.usual.power_after.Reads as power-after-reads
 
 abbrev Inv-loop : tie.InvT-loop
 Inv-loop text comma watts₀ end₀ taken₀ watts end taken = (taken ≤ 3) × (length watts ≡ 3) × PowersTaken taken text comma end watts
@@ -19,11 +16,9 @@ Inv-loop text comma watts₀ end₀ taken₀ watts end taken = (taken ≤ 3) × 
 abbrev μ-loop : tie.MeasureT-loop
 μ-loop text comma watts₀ end₀ taken₀ watts end taken = 3 - taken
 
--- src/usual.rt:158:5
 loop-holds : tie.Need-loop-holds Inv-loop μ-loop
 loop-holds c = (omega arith, refl, refl)
 
--- src/usual.rt:159:46
 power-after-requires : tie.Need-power-after-requires Inv-loop μ-loop
 power-after-requires c κs =
     let l = c .before .loop in
@@ -31,35 +26,27 @@ power-after-requires c κs =
     let e = powers-end (l .taken) (a .text .now) (a .comma) (l .end) (l .watts) (l .inv .2) in
     omega (arith, e, c .before .before .before .pre)
 
--- src/usual.rt:159:30
 enum-known-after : tie.Need-enum-known-after Inv-loop μ-loop
 enum-known-after c = search needs
 
--- src/usual.rt:160:13
 enum-told : tie.Need-enum-told Inv-loop μ-loop
 enum-told c = search needs
 
--- src/usual.rt:160:13
 returns : tie.Need-returns Inv-loop μ-loop
 returns c = search needs
 
--- src/usual.rt:162:9
 mul-watts : tie.Need-mul-watts Inv-loop μ-loop
 mul-watts c = record { fits = omega arith }
 
--- src/usual.rt:162:9
 array-write-watts : tie.Need-array-write-watts Inv-loop μ-loop
 array-write-watts c = search needs
 
--- src/usual.rt:164:9
 add-taken : tie.Need-add-taken Inv-loop μ-loop
 add-taken c = search needs
 
--- src/usual.rt:158:5
 loop-less : tie.Need-loop-less Inv-loop μ-loop
 loop-less c = search needs
 
--- src/usual.rt:158:5
 loop-again : tie.Need-loop-again Inv-loop μ-loop
 loop-again c =
     let l = c .before .before .before .before .before .loop in
@@ -71,19 +58,15 @@ loop-again c =
     let power : PowerTaken (a .text .now) (l .end) (v .0 .0) (v .0 .1 .0) = subst (λ (r : CellRead). powerOf (a .text .now) (l .end) r) (v .1) (p .ensures) in
     (omega arith, size, power-more (l .taken) (a .text .now) (a .comma) (l .end) (l .watts) (v .0 .0) (v .0 .1 .0) h (l .inv .2) power)
 
--- src/usual.rt:167:17
 array-read-t16 : tie.Need-array-read-t16 Inv-loop μ-loop
 array-read-t16 c = search needs
 
--- src/usual.rt:168:16
 array-read-t19 : tie.Need-array-read-t19 Inv-loop μ-loop
 array-read-t19 c = search needs
 
--- src/usual.rt:169:17
 array-read-t22 : tie.Need-array-read-t22 Inv-loop μ-loop
 array-read-t22 c = search needs
 
--- src/usual.rt:151:1
 returns-2 : tie.Need-returns-2 Inv-loop μ-loop
 returns-2 c =
     let l = c .before .loop in

@@ -3,10 +3,7 @@ use mathlib.Core.Path.{refl}
 use Rattle.sheet.proofs.UsualLaws.{named}
 use Rattle.sheet.proofs.usual.powers_named.Statement.{statement}
 use Rattle.sheet.proofs.usual.powers_named.Tie as tie
-use Rattle.sheet.proofs.usual.powers_named.Reads as reads
-use Rattle.sheet.proofs.usual.powers_named.Lts as lts
 
--- src/usual.rt:107:1
 returns : tie.Need-returns
 returns c = λ e. named _ _ _ _ refl e
 

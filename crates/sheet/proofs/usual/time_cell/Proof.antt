@@ -3,27 +3,19 @@ use borrow.Author.Needs.{needs}
 use Rattle.sheet.proofs.UsualLaws.{time-part}
 use Rattle.sheet.proofs.usual.time_cell.Statement.{statement}
 use Rattle.sheet.proofs.usual.time_cell.Tie as tie
-use Rattle.sheet.proofs.usual.time_cell.Reads as reads
-use Rattle.sheet.proofs.usual.time_cell.Lts as lts
-use Rattle.sheet.proofs.usual.digits_from.Reads as digits-from-reads
 
--- src/usual.rt:85:9
 digits-from-requires : tie.Need-digits-from-requires
 digits-from-requires c κs = search needs
 
--- src/usual.rt:88:5
 sub-result : tie.Need-sub-result
 sub-result c = search needs
 
--- src/usual.rt:88:5
 part-result-start : tie.Need-part-result-start
 part-result-start c = search needs
 
--- src/usual.rt:88:5
 part-result-end : tie.Need-part-result-end
 part-result-end c = search needs
 
--- src/usual.rt:81:1
 returns : tie.Need-returns
 returns c = time-part (c .before .before .before .args .text .now) (c .before .before .before .args .at) (c .before .digits-from .result) (c .before .digits-from .ensures)
 

@@ -4,27 +4,19 @@ use Rattle.rules.specs.SampleFile.{timeCell}
 use Rattle.sheet.proofs.UsualLaws.{cell-taken}
 use Rattle.sheet.proofs.usual.time_from.Statement.{statement}
 use Rattle.sheet.proofs.usual.time_from.Tie as tie
-use Rattle.sheet.proofs.usual.time_from.Reads as reads
-use Rattle.sheet.proofs.usual.time_from.Lts as lts
-use Rattle.sheet.proofs.usual.time_cell.Reads as time-cell-reads
 
--- src/usual.rt:121:9
 time-cell-requires : tie.Need-time-cell-requires
 time-cell-requires c κs = search needs
 
--- src/usual.rt:123:9
 returns : tie.Need-returns
 returns c = search needs
 
--- src/usual.rt:126:9
 returns-2 : tie.Need-returns-2
 returns-2 c = search needs
 
--- src/usual.rt:128:22
 add-t9 : tie.Need-add-t9
 add-t9 c = search needs
 
--- src/usual.rt:116:1
 returns-3 : tie.Need-returns-3
 returns-3 c = cell-taken timeCell 9 316223999 _ _ _ _ (c .before .before .time-cell .ensures) (c .before .if1 .left) (c .if2 .left)
 

@@ -17,14 +17,6 @@ use Rattle.sheet.proofs.PowersLaws.{three-end, powers-line}
 use borrow.Author.Needs.{needs}
 use Rattle.sheet.proofs.usual.usual_row.Statement.{statement}
 use Rattle.sheet.proofs.usual.usual_row.Tie as tie
-use Rattle.sheet.proofs.usual.usual_row.Reads as reads
-use Rattle.sheet.proofs.usual.usual_row.Lts as lts
-use Rattle.sheet.proofs.rows.value_under.Reads as value-under-reads
-use Rattle.sheet.proofs.usual.end_from.Reads as end-from-reads
-use Rattle.sheet.proofs.usual.has_room.Reads as has-room-reads
-use Rattle.sheet.proofs.usual.powers_after.Reads as powers-after-reads
-use Rattle.sheet.proofs.usual.powers_named.Reads as powers-named-reads
-use Rattle.sheet.proofs.usual.time_from.Reads as time-from-reads
 
 -- the text and the place that it is read from
 abbrev textIn : tie.After-time-end → List ℕ
@@ -49,93 +41,72 @@ end-read c = subst (λ (r : EndRead). endOf (textIn (c .before .before .before .
 time-ends : (c : tie.After-time-end) → c .time-end .given .0 .0 ≤ placeIn c + 9
 time-ends c = cell-end timeCell 9 316223999 (textIn c) (placeIn c) (c .time-end .given .0 .0) (c .time-end .given .0 .1 .0) (time-read c)
 
--- src/usual.rt:219:9
 has-room-requires : tie.Need-has-room-requires
 has-room-requires c κs = search needs
 
--- src/usual.rt:220:9
 returns : tie.Need-returns
 returns c = search needs
 
--- src/usual.rt:222:9
 powers-named-requires : tie.Need-powers-named-requires
 powers-named-requires c κs = search needs
 
--- src/usual.rt:223:9
 returns-2 : tie.Need-returns-2
 returns-2 c = search needs
 
--- src/usual.rt:225:44
 time-from-requires : tie.Need-time-from-requires
 time-from-requires c κs =
     let start = c .before .before .before .before .before in
     let room : start .args .at + 44 ≤ length (start .args .text .now) = c .before .before .before .has-room .ensures (not-false _ (c .before .before .if1 .left)) in
     omega (arith, room)
 
--- src/usual.rt:225:26
 enum-known-time-end : tie.Need-enum-known-time-end
 enum-known-time-end c = search needs
 
--- src/usual.rt:226:9
 enum-told : tie.Need-enum-told
 enum-told c = search needs
 
--- src/usual.rt:226:9
 returns-3 : tie.Need-returns-3
 returns-3 c = search needs
 
--- src/usual.rt:228:48
 powers-after-requires : tie.Need-powers-after-requires
 powers-after-requires c κs = omega (arith, room (c .before), time-ends (c .before))
 
--- src/usual.rt:228:27
 enum-known-cells-end : tie.Need-enum-known-cells-end
 enum-known-cells-end c = search needs
 
--- src/usual.rt:229:9
 enum-told-2 : tie.Need-enum-told-2
 enum-told-2 c = search needs
 
--- src/usual.rt:229:9
 returns-4 : tie.Need-returns-4
 returns-4 c = search needs
 
--- src/usual.rt:231:31
 end-from-requires : tie.Need-end-from-requires
 end-from-requires c κs =
     let time = c .before .before .before .before .before in
     let last = three-end (textIn time) (time .time-end .given .0 .0) (c .before .cells-end .given .0 .0) (c .before .cells-end .given .0 .1 .0) (powers-read (c .before)) in
     omega (arith, room time, time-ends time, last)
 
--- src/usual.rt:231:23
 enum-known-next : tie.Need-enum-known-next
 enum-known-next c = search needs
 
--- src/usual.rt:232:9
 enum-told-3 : tie.Need-enum-told-3
 enum-told-3 c = search needs
 
--- src/usual.rt:232:9
 returns-5 : tie.Need-returns-5
 returns-5 c = search needs
 
--- src/usual.rt:234:9
 value-under-requires : tie.Need-value-under-requires
 value-under-requires c κs = search needs
 
--- src/usual.rt:235:9
 value-under-requires-2 : tie.Need-value-under-requires-2
 value-under-requires-2 c κs = search needs
 
--- src/usual.rt:237:9
 returns-6 : tie.Need-returns-6
 returns-6 c = search needs
 
--- src/usual.rt:242:16
 value-under-requires-3 : tie.Need-value-under-requires-3
 value-under-requires-3 c κs = search needs
 
--- src/usual.rt:216:1
 returns-7 : tie.Need-returns-7
 returns-7 c =
     let next = c .before .before .before .before .before in

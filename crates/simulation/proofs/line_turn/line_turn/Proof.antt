@@ -9,12 +9,6 @@ use Rattle.simulation.proofs.LineLaws.{rest-is, line-room, line-moves, 
 use borrow.Author.Needs.{needs}
 use Rattle.simulation.proofs.line_turn.line_turn.Statement.{statement}
 use Rattle.simulation.proofs.line_turn.line_turn.Tie as tie
-use Rattle.simulation.proofs.line_turn.line_turn.Reads as reads
-use Rattle.simulation.proofs.line_turn.line_turn.Lts as lts
-use Rattle.simulation.proofs.line_turn.phase_after.Reads as phase-after-reads
-use Rattle.simulation.proofs.line_turn.put_line_of.Reads as put-line-of-reads
-use Rattle.simulation.proofs.line_turn.waiting.Reads as waiting-reads
-use Rattle.simulation.proofs.line_turn.with_phase.Reads as with-phase-reads
 
 -- the line stands in the tail that was lent
 owes : (c : tie.After-put-line-of) → TextPut (lineOf (c .before .before .before .before .before .before .args .t .simulation .phase) (c .before .before .before .before .before .before .args .t .simulation .course .run .sets)) (drop (c .before .before .before .before .before .before .args .t .written) (now (c .before .before .before .before .before .before .args .out))) (c .put-line-of .result) (c .put-line-of .last .1 .1 .0)

@@ -1,67 +1,49 @@
 use borrow.Author.Needs.{needs}
 use Rattle.simulation.proofs.line_turn.phase_after.Statement.{statement}
 use Rattle.simulation.proofs.line_turn.phase_after.Tie as tie
-use Rattle.simulation.proofs.line_turn.phase_after.Reads as reads
-use Rattle.simulation.proofs.line_turn.phase_after.Lts as lts
-use Rattle.simulation.proofs.line_turn.next_place.Reads as next-place-reads
 
--- src/line_turn.rt:73:30
 enum-told : tie.Need-enum-told
 enum-told c = search needs
 
--- src/line_turn.rt:74:27
 enum-told-2 : tie.Need-enum-told-2
 enum-told-2 c = search needs
 
--- src/line_turn.rt:75:27
 enum-told-3 : tie.Need-enum-told-3
 enum-told-3 c = search needs
 
--- src/line_turn.rt:76:30
 enum-told-4 : tie.Need-enum-told-4
 enum-told-4 c = search needs
 
--- src/line_turn.rt:77:24
 enum-known-phase : tie.Need-enum-known-phase
 enum-known-phase c = search needs
 
--- src/line_turn.rt:77:49
 next-place-requires : tie.Need-next-place-requires
 next-place-requires c κs = search needs
 
--- src/line_turn.rt:78:24
 enum-told-5 : tie.Need-enum-told-5
 enum-told-5 c = search needs
 
--- src/line_turn.rt:79:26
 enum-told-6 : tie.Need-enum-told-6
 enum-told-6 c = search needs
 
--- src/line_turn.rt:69:1
 returns : tie.Need-returns
 returns c = search needs
 
--- src/line_turn.rt:69:1
 returns-2 : tie.Need-returns-2
 returns-2 c = search needs
 
--- src/line_turn.rt:69:1
 returns-3 : tie.Need-returns-3
 returns-3 c = search needs
 
--- src/line_turn.rt:69:1
 returns-4 : tie.Need-returns-4
 returns-4 c = search needs
 
--- src/line_turn.rt:69:1
 returns-5 : tie.Need-returns-5
 returns-5 c = rw (c .before .before .phase .given .1, c .next-place .ensures)
 
--- src/line_turn.rt:69:1
 returns-6 : tie.Need-returns-6
 returns-6 c = search needs
 
--- src/line_turn.rt:69:1
 returns-7 : tie.Need-returns-7
 returns-7 c = search needs
 

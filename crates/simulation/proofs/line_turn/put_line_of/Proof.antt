@@ -3,129 +3,94 @@ use Rattle.simulation.specs.Text.{lineOf}
 use borrow.Author.Needs.{needs}
 use Rattle.simulation.proofs.line_turn.put_line_of.Statement.{statement}
 use Rattle.simulation.proofs.line_turn.put_line_of.Tie as tie
-use Rattle.simulation.proofs.line_turn.put_line_of.Reads as reads
-use Rattle.simulation.proofs.line_turn.put_line_of.Lts as lts
-use Rattle.rows.proofs.run_lines.put_refused.Reads as put-refused-reads
-use Rattle.rows.proofs.run_lines.put_row_heading.Reads as put-row-heading-reads
-use Rattle.rows.proofs.run_lines.put_set_heading.Reads as put-set-heading-reads
-use Rattle.simulation.proofs.line_turn.put_nothing.Reads as put-nothing-reads
-use Rattle.simulation.proofs.line_turn.put_set.Reads as put-set-reads
 
--- src/line_turn.rt:50:24
 enum-known-phase : tie.Need-enum-known-phase
 enum-known-phase c = search needs
 
--- src/line_turn.rt:50:36
 put-refused-requires : tie.Need-put-refused-requires
 put-refused-requires c κs = search needs
 
--- src/line_turn.rt:51:43
 enum-told : tie.Need-enum-told
 enum-told c = search needs
 
--- src/line_turn.rt:51:27
 put-row-heading-requires : tie.Need-put-row-heading-requires
 put-row-heading-requires c κs = search needs
 
--- src/line_turn.rt:52:39
 enum-told-2 : tie.Need-enum-told-2
 enum-told-2 c = search needs
 
--- src/line_turn.rt:52:27
 put-nothing-requires : tie.Need-put-nothing-requires
 put-nothing-requires c κs = search needs
 
--- src/line_turn.rt:53:46
 enum-told-3 : tie.Need-enum-told-3
 enum-told-3 c = search needs
 
--- src/line_turn.rt:53:30
 put-set-heading-requires : tie.Need-put-set-heading-requires
 put-set-heading-requires c κs = search needs
 
--- src/line_turn.rt:54:24
 enum-known-phase-2 : tie.Need-enum-known-phase-2
 enum-known-phase-2 c = search needs
 
--- src/line_turn.rt:54:34
 put-set-requires : tie.Need-put-set-requires
 put-set-requires c κs = search needs
 
--- src/line_turn.rt:55:36
 enum-told-4 : tie.Need-enum-told-4
 enum-told-4 c = search needs
 
--- src/line_turn.rt:55:24
 put-nothing-requires-2 : tie.Need-put-nothing-requires-2
 put-nothing-requires-2 c κs = search needs
 
--- src/line_turn.rt:56:38
 enum-told-5 : tie.Need-enum-told-5
 enum-told-5 c = search needs
 
--- src/line_turn.rt:56:26
 put-nothing-requires-3 : tie.Need-put-nothing-requires-3
 put-nothing-requires-3 c κs = search needs
 
--- src/line_turn.rt:46:1
 same-length : tie.Need-same-length
 same-length c = search needs
 
--- src/line_turn.rt:46:1
 returns : tie.Need-returns
 unfolding lineOf
 returns c = rw (c .before .before .before .before .before .phase .given .1) (c .before .before .put-refused .ensures)
 
--- src/line_turn.rt:46:1
 same-length-2 : tie.Need-same-length-2
 same-length-2 c = search needs
 
--- src/line_turn.rt:46:1
 returns-2 : tie.Need-returns-2
 unfolding lineOf
 returns-2 c = rw (c .before .before .before .before .enum-told .given .1) (c .before .before .put-row-heading .ensures)
 
--- src/line_turn.rt:46:1
 same-length-3 : tie.Need-same-length-3
 same-length-3 c = search needs
 
--- src/line_turn.rt:46:1
 returns-3 : tie.Need-returns-3
 unfolding lineOf
 returns-3 c = rw (c .before .before .before .before .enum-told2 .given .1) (c .before .before .put-nothing .ensures)
 
--- src/line_turn.rt:46:1
 same-length-4 : tie.Need-same-length-4
 same-length-4 c = search needs
 
--- src/line_turn.rt:46:1
 returns-4 : tie.Need-returns-4
 unfolding lineOf
 returns-4 c = rw (c .before .before .before .before .enum-told3 .given .1) (c .before .before .put-set-heading .ensures)
 
--- src/line_turn.rt:46:1
 same-length-5 : tie.Need-same-length-5
 same-length-5 c = search needs
 
--- src/line_turn.rt:46:1
 returns-5 : tie.Need-returns-5
 unfolding lineOf
 returns-5 c = rw (c .before .before .before .before .before .phase2 .given .1) (c .before .before .put-set .ensures)
 
--- src/line_turn.rt:46:1
 same-length-6 : tie.Need-same-length-6
 same-length-6 c = search needs
 
--- src/line_turn.rt:46:1
 returns-6 : tie.Need-returns-6
 unfolding lineOf
 returns-6 c = rw (c .before .before .before .before .enum-told4 .given .1) (c .before .before .put-nothing2 .ensures)
 
--- src/line_turn.rt:46:1
 same-length-7 : tie.Need-same-length-7
 same-length-7 c = search needs
 
--- src/line_turn.rt:46:1
 returns-7 : tie.Need-returns-7
 unfolding lineOf
 returns-7 c = rw (c .before .before .before .before .enum-told5 .given .1) (c .before .before .put-nothing3 .ensures)

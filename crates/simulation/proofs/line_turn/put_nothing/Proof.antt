@@ -6,14 +6,10 @@ use denote.Ref.{now}
 use Rattle.rows.proofs.RowInBuffer.{text-refused, text-written}
 use Rattle.simulation.proofs.line_turn.put_nothing.Statement.{statement}
 use Rattle.simulation.proofs.line_turn.put_nothing.Tie as tie
-use Rattle.simulation.proofs.line_turn.put_nothing.Reads as reads
-use Rattle.simulation.proofs.line_turn.put_nothing.Lts as lts
 
--- src/line_turn.rt:28:9
 returns : tie.Need-returns
 returns c = text-refused [] (now (c .before .args .tail)) (c .if1 .taken)
 
--- src/line_turn.rt:24:1
 returns-2 : tie.Need-returns-2
 returns-2 c = text-written [] (now (c .before .args .tail)) 0 (now (c .before .args .tail)) (omega (arith, c .if1 .left)) (refl, refl)
 

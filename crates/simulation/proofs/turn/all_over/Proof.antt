@@ -2,15 +2,10 @@
 use borrow.Author.Needs.{needs}
 use Rattle.simulation.proofs.turn.all_over.Statement.{statement}
 use Rattle.simulation.proofs.turn.all_over.Tie as tie
-use Rattle.simulation.proofs.turn.all_over.Reads as reads
-use Rattle.simulation.proofs.turn.all_over.Lts as lts
-use Rattle.simulation.proofs.line_turn.with_phase.Reads as with-phase-reads
 
--- src/turn.rt:36:21
 with-phase-requires : tie.Need-with-phase-requires
 with-phase-requires c κs = search needs
 
--- src/turn.rt:31:1
 returns : tie.Need-returns
 returns c = rw (c .with-phase .ensures)
 

@@ -4,30 +4,21 @@ use Rattle.simulation.proofs.PhaseTurns.{set-heading-turn, passing-turn
 use borrow.Author.Needs.{needs}
 use Rattle.simulation.proofs.turn.set_heading_turn.Statement.{statement}
 use Rattle.simulation.proofs.turn.set_heading_turn.Tie as tie
-use Rattle.simulation.proofs.turn.set_heading_turn.Reads as reads
-use Rattle.simulation.proofs.turn.set_heading_turn.Lts as lts
-use Rattle.simulation.proofs.line_turn.line_turn.Reads as line-turn-reads
-use Rattle.simulation.proofs.turn.passed_by.Reads as passed-by-reads
 
--- src/turn.rt:65:9
 line-turn-requires : tie.Need-line-turn-requires
 line-turn-requires c κs = search needs
 
--- src/turn.rt:65:9
 same-length : tie.Need-same-length
 same-length c = search needs
 
--- src/turn.rt:65:9
 returns : tie.Need-returns
 returns c =
     let start = c .before .before .before .before .before .before in
     λ chunk e at-in. set-heading-turn (start .args .t) chunk (start .args .ended) (now (start .args .out)) at-in (start .pre .1) (start .pre .0) (c .before .before .before .before .if1 .taken) _ _ (c .before .before .line-turn .ensures)
 
--- src/turn.rt:67:5
 passed-by-requires : tie.Need-passed-by-requires
 passed-by-requires c κs = search needs
 
--- src/turn.rt:60:1
 returns-2 : tie.Need-returns-2
 returns-2 c =
     let start = c .before .before .before in

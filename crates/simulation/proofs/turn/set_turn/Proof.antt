@@ -7,10 +7,6 @@ use mathlib.Core.Path.{_≡_}
 use lib.ListN.{length, length-map}
 use Rattle.simulation.proofs.turn.set_turn.Statement.{statement}
 use Rattle.simulation.proofs.turn.set_turn.Tie as tie
-use Rattle.simulation.proofs.turn.set_turn.Reads as reads
-use Rattle.simulation.proofs.turn.set_turn.Lts as lts
-use Rattle.simulation.proofs.line_turn.line_turn.Reads as line-turn-reads
-use Rattle.simulation.proofs.turn.all_over.Reads as all-over-reads
 
 -- the record's sets are eight
 eight : (c : tie.Start) → length (c .args .t .simulation .course .run .sets) ≡ 8

@@ -6,125 +6,92 @@ use Rattle.simulation.proofs.PhaseTurns.{refusal-turn, heading-turn, fi
 use borrow.Author.Needs.{needs}
 use Rattle.simulation.proofs.turn.turn.Statement.{statement}
 use Rattle.simulation.proofs.turn.turn.Tie as tie
-use Rattle.simulation.proofs.turn.turn.Reads as reads
-use Rattle.simulation.proofs.turn.turn.Lts as lts
-use Rattle.simulation.proofs.line_turn.line_turn.Reads as line-turn-reads
-use Rattle.simulation.proofs.line_turn.waiting.Reads as waiting-reads
-use Rattle.simulation.proofs.seconds_turn.seconds_turn.Reads as seconds-turn-reads
-use Rattle.simulation.proofs.turn.set_heading_turn.Reads as set-heading-turn-reads
-use Rattle.simulation.proofs.turn.set_turn.Reads as set-turn-reads
 
--- src/turn.rt:77:43
 enum-told : tie.Need-enum-told
 enum-told c = search needs
 
--- src/turn.rt:77:30
 line-turn-requires : tie.Need-line-turn-requires
 line-turn-requires c κs = search needs
 
--- src/turn.rt:78:40
 enum-told-2 : tie.Need-enum-told-2
 enum-told-2 c = search needs
 
--- src/turn.rt:78:27
 line-turn-requires-2 : tie.Need-line-turn-requires-2
 line-turn-requires-2 c κs = search needs
 
--- src/turn.rt:79:57
 enum-told-3 : tie.Need-enum-told-3
 enum-told-3 c = search needs
 
--- src/turn.rt:79:27
 seconds-turn-requires : tie.Need-seconds-turn-requires
 seconds-turn-requires c κs = search needs
 
--- src/turn.rt:80:50
 enum-told-4 : tie.Need-enum-told-4
 enum-told-4 c = search needs
 
--- src/turn.rt:80:30
 set-heading-turn-requires : tie.Need-set-heading-turn-requires
 set-heading-turn-requires c κs = search needs
 
--- src/turn.rt:81:24
 enum-known-phase : tie.Need-enum-known-phase
 enum-known-phase c = search needs
 
--- src/turn.rt:81:34
 set-turn-requires : tie.Need-set-turn-requires
 set-turn-requires c κs = search needs
 
--- src/turn.rt:82:35
 enum-told-5 : tie.Need-enum-told-5
 enum-told-5 c = search needs
 
--- src/turn.rt:82:24
 waiting-requires : tie.Need-waiting-requires
 waiting-requires c κs = search needs
 
--- src/turn.rt:83:37
 enum-told-6 : tie.Need-enum-told-6
 enum-told-6 c = search needs
 
--- src/turn.rt:83:26
 waiting-requires-2 : tie.Need-waiting-requires-2
 waiting-requires-2 c κs = search needs
 
--- src/turn.rt:70:1
 same-length : tie.Need-same-length
 same-length c = search needs
 
--- src/turn.rt:70:1
 returns : tie.Need-returns
 returns c =
     let start = c .before .before .before .before .before .before .before .before .before in
     refusal-turn (start .args .t) (now (start .args .chunk)) (start .args .ended) (now (start .args .out)) (start .pre .0) (start .pre .1) _ (c .before .before .before .before .enum-told .given .1) _ _ (c .before .before .line-turn .ensures)
 
--- src/turn.rt:70:1
 same-length-2 : tie.Need-same-length-2
 same-length-2 c = search needs
 
--- src/turn.rt:70:1
 returns-2 : tie.Need-returns-2
 returns-2 c =
     let start = c .before .before .before .before .before .before .before .before .before in
     heading-turn (start .args .t) (now (start .args .chunk)) (start .args .ended) (now (start .args .out)) (start .pre .0) (start .pre .1) (c .before .before .before .before .enum-told2 .given .1) _ _ (c .before .before .line-turn2 .ensures)
 
--- src/turn.rt:70:1
 same-length-3 : tie.Need-same-length-3
 same-length-3 c = search needs
 
--- src/turn.rt:70:1
 returns-3 : tie.Need-returns-3
 returns-3 c = search needs
 
--- src/turn.rt:70:1
 same-length-4 : tie.Need-same-length-4
 same-length-4 c = search needs
 
--- src/turn.rt:70:1
 returns-4 : tie.Need-returns-4
 returns-4 c =
     let start = c .before .before .before .before .before .before .before .before .before in
     c .before .before .set-heading-turn .ensures (now (start .args .chunk)) refl (start .pre .0)
 
--- src/turn.rt:70:1
 same-length-5 : tie.Need-same-length-5
 same-length-5 c = search needs
 
--- src/turn.rt:70:1
 returns-5 : tie.Need-returns-5
 returns-5 c =
     let start = c .before .before .before .before .before .before .before .before .before .before in
     c .before .before .set-turn .ensures (now (start .args .chunk)) (start .args .ended) (start .pre .0)
 
--- src/turn.rt:70:1
 returns-6 : tie.Need-returns-6
 returns-6 c =
     let start = c .before .before .before .before .before .before in
     rw (c .waiting .ensures) (finished-turn (start .args .t) (now (start .args .chunk)) (start .args .ended) (now (start .args .out)) (start .pre .0) (start .pre .1) (ap finished (c .before .enum-told5 .given .1)))
 
--- src/turn.rt:70:1
 returns-7 : tie.Need-returns-7
 returns-7 c =
     let start = c .before .before .before .before .before .before in

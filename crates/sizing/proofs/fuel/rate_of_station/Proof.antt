@@ -21,12 +21,6 @@ use Rattle.sizing.proofs.Asked.{mask-wrong, power-above, value-given, m
 use borrow.Author.Needs.{needs}
 use Rattle.sizing.proofs.fuel.rate_of_station.Statement.{statement}
 use Rattle.sizing.proofs.fuel.rate_of_station.Tie as tie
-use Rattle.sizing.proofs.fuel.rate_of_station.Reads as reads
-use Rattle.sizing.proofs.fuel.rate_of_station.Lts as lts
-use Rattle.gensets.proofs.fuel.fuel_rate.Reads as fuel-rate-reads
-use Rattle.gensets.proofs.share.capacity.Reads as capacity-reads
-use Rattle.words.proofs.masks.existing_only.Reads as existing-only-reads
-use Rattle.words.proofs.masks.next_set.Reads as next-set-reads
 
 -- what the test of the mask says
 tested : (c : tie.Else1) → existingOnly (c .before .before .args .st .setcount) (c .before .before .args .mask) && eqb (ones (c .before .before .args .mask)) 1 ≡ true

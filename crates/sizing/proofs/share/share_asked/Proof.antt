@@ -5,31 +5,22 @@ use Rattle.station.proofs.FileAnswers.{file-gives, record-right, file-refused}
 use borrow.Author.Needs.{needs}
 use Rattle.sizing.proofs.share.share_asked.Statement.{statement}
 use Rattle.sizing.proofs.share.share_asked.Tie as tie
-use Rattle.sizing.proofs.share.share_asked.Reads as reads
-use Rattle.sizing.proofs.share.share_asked.Lts as lts
-use Rattle.sizing.proofs.share.share_of_station.Reads as share-of-station-reads
-use Rattle.station.proofs.reader.read_station.Reads as read-station-reads
 
--- src/share.rt:53:9
 read-station-requires : tie.Need-read-station-requires
 read-station-requires c κs = search needs
 
--- src/share.rt:57:30
 enum-told : tie.Need-enum-told
 enum-told c = search needs
 
--- src/share.rt:57:30
 share-of-station-requires : tie.Need-share-of-station-requires
 share-of-station-requires c κs =
     let read = c .before .before .before in
     let s = read .before .before .args .s .now in
     record-right s (read .read-station .result .verdict) (read .read-station .ensures .0) _ (read .read-station .ensures .1) (c .enum-told .given .1) .0
 
--- src/share.rt:58:26
 enum-known-verdict : tie.Need-enum-known-verdict
 enum-known-verdict c = search needs
 
--- src/share.rt:50:1
 returns : tie.Need-returns
 unfolding shareAsked
 returns c =
@@ -38,7 +29,6 @@ returns c =
     let a = read .before .before .args in
     c .share-of-station .ensures ∙ rw (file-gives (a .s .now) (read .read-station .result .verdict) (read .read-station .ensures .0) _ (read .read-station .ensures .1) (told .enum-told .given .1))
 
--- src/share.rt:50:1
 returns-2 : tie.Need-returns-2
 unfolding shareAsked
 returns-2 c =

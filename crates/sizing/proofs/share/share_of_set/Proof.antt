@@ -7,39 +7,28 @@ use Rattle.sizing.proofs.Asked.{no-set-zero, no-set-beyond, set-share, 
 use borrow.Author.Needs.{needs}
 use Rattle.sizing.proofs.share.share_of_set.Statement.{statement}
 use Rattle.sizing.proofs.share.share_of_set.Tie as tie
-use Rattle.sizing.proofs.share.share_of_set.Reads as reads
-use Rattle.sizing.proofs.share.share_of_set.Lts as lts
-use Rattle.gensets.proofs.share.shares.Reads as shares-reads
 
--- src/share.rt:22:9
 returns : tie.Need-returns
 returns c = let a = c .before .args in no-set-zero (a .st) (a .mask) (a .power) (a .set) (search needs)
 
--- src/share.rt:25:9
 returns-2 : tie.Need-returns-2
 returns-2 c = let a = c .before .before .args in no-set-beyond (a .st) (a .mask) (a .power) (a .set) (search needs)
 
--- src/share.rt:28:9
 shares-requires : tie.Need-shares-requires
 shares-requires c κs = search needs
 
--- src/share.rt:30:15
 sub-at : tie.Need-sub-at
 sub-at c = search needs
 
--- src/share.rt:31:5
 mul-result : tie.Need-mul-result
 mul-result c = let b = c .before .before .before .before .before in let n : b .args .set - 1 < 8 = omega (arith, right-of (b .args .st) (b .pre .0) .setcount .1) in search needs
 
--- src/share.rt:31:5
 array-read-result : tie.Need-array-read-result
 array-read-result c = let b = c .before .before .before .before .before in omega (arith, right-of (b .args .st) (b .pre .0) .setcount .1)
 
--- src/share.rt:31:5
 cast-result : tie.Need-cast-result
 cast-result c = search needs
 
--- src/share.rt:16:1
 returns-3 : tie.Need-returns-3
 returns-3 c =
     let b = c .before .before .before .before .before in

@@ -15,11 +15,6 @@ use Rattle.sizing.proofs.Asked.{mask-wrong, power-above, value-given, m
 use borrow.Author.Needs.{needs}
 use Rattle.sizing.proofs.share.share_of_station.Statement.{statement}
 use Rattle.sizing.proofs.share.share_of_station.Tie as tie
-use Rattle.sizing.proofs.share.share_of_station.Reads as reads
-use Rattle.sizing.proofs.share.share_of_station.Lts as lts
-use Rattle.sizing.proofs.share.share_of_set.Reads as share-of-set-reads
-use Rattle.gensets.proofs.share.capacity.Reads as capacity-reads
-use Rattle.words.proofs.masks.existing_only.Reads as existing-only-reads
 
 -- what the test of the mask says
 tested : (c : tie.Else1) → existingOnly (c .before .before .args .st .setcount) (c .before .before .args .mask) && ltb 0 (c .before .before .args .mask) ≡ true
@@ -30,26 +25,21 @@ small c =
     let a = c .before .before in
     mask-small (a .args .st) (a .pre) (a .args .mask) (both (existingOnly (a .args .st .setcount) (a .args .mask)) (ltb 0 (a .args .mask)) (tested c) .0)
 
--- src/share.rt:39:10
 existing-only-requires : tie.Need-existing-only-requires
 existing-only-requires c κs = search needs
 
--- src/share.rt:40:9
 returns : tie.Need-returns
 unfolding shareOf
 returns c =
     let a = c .before .before .args in
     mask-wrong (existingOnly (a .st .setcount) (a .mask) && ltb 0 (a .mask)) (a .power) (capacity (a .st .sets) (a .mask)) (shareOfSet (a .st) (a .mask) (a .power) (a .set)) (ap₂ _&&_ (sym (c .before .existing-only .ensures)) refl ∙ not-true _ (c .if1 .taken))
 
--- src/share.rt:43:17
 cast-named : tie.Need-cast-named
 cast-named c = record { fits = omega (arith, small (c .before)) }
 
--- src/share.rt:44:8
 capacity-requires : tie.Need-capacity-requires
 capacity-requires c κs = search needs
 
--- src/share.rt:45:9
 returns-2 : tie.Need-returns-2
 unfolding shareOf
 returns-2 c =
@@ -57,18 +47,15 @@ returns-2 c =
     let a = one .before .before .args in
     power-above (existingOnly (a .st .setcount) (a .mask) && ltb 0 (a .mask)) (a .power) (capacity (a .st .sets) (a .mask)) (shareOfSet (a .st) (a .mask) (a .power) (a .set)) (tested one) (omega (arith, c .before .capacity .ensures, c .if2 .taken))
 
--- src/share.rt:47:43
 cast-share-of-set : tie.Need-cast-share-of-set
 cast-share-of-set c =
     let one = c .before .before .before in
     let a = one .before .before in
     record { fits = omega (arith, capacity-most (a .args .st) (a .pre) (a .args .mask), c .before .capacity .ensures, c .if2 .left) }
 
--- src/share.rt:47:19
 share-of-set-requires : tie.Need-share-of-set-requires
 share-of-set-requires c κs = search needs
 
--- src/share.rt:34:1
 returns-3 : tie.Need-returns-3
 unfolding shareOf
 returns-3 c =

@@ -6,44 +6,31 @@ use Rattle.station.proofs.Reading.{battery-read, contents-at}
 use borrow.Author.Needs.{needs}
 use Rattle.station.proofs.bodies.battery_of.Statement.{statement}
 use Rattle.station.proofs.bodies.battery_of.Tie as tie
-use Rattle.station.proofs.bodies.battery_of.Reads as reads
-use Rattle.station.proofs.bodies.battery_of.Lts as lts
-use Rattle.station.proofs.numbers.number_at.Reads as number-at-reads
-use Rattle.station.proofs.numbers.words_from.Reads as words-from-reads
 
--- src/bodies.rt:43:13
 words-from-requires : tie.Need-words-from-requires
 words-from-requires c κs = search needs
 
--- src/bodies.rt:45:16
 array-read-t6 : tie.Need-array-read-t6
 array-read-t6 c = search needs
 
--- src/bodies.rt:46:21
 array-read-t9 : tie.Need-array-read-t9
 array-read-t9 c = search needs
 
--- src/bodies.rt:47:16
 number-at-requires : tie.Need-number-at-requires
 number-at-requires c κs = search needs
 
--- src/bodies.rt:48:28
 add-number-at : tie.Need-add-number-at
 add-number-at c = search needs
 
--- src/bodies.rt:48:15
 number-at-requires-2 : tie.Need-number-at-requires-2
 number-at-requires-2 c κs = search needs
 
--- src/bodies.rt:49:29
 add-number-at-2 : tie.Need-add-number-at-2
 add-number-at-2 c = search needs
 
--- src/bodies.rt:49:16
 number-at-requires-3 : tie.Need-number-at-requires-3
 number-at-requires-3 c κs = search needs
 
--- src/bodies.rt:39:1
 returns : tie.Need-returns
 returns c =
     let w = c .before .before .before in

@@ -11,8 +11,6 @@ use Rattle.rules.proofs.StationRead.{length-littles}
 use Rattle.station.proofs.Reading.{byte-at, littles-more, row-turn}
 use Rattle.station.proofs.bodies.configurations_of.Statement.{statement}
 use Rattle.station.proofs.bodies.configurations_of.Tie as tie
-use Rattle.station.proofs.bodies.configurations_of.Reads as reads
-use Rattle.station.proofs.bodies.configurations_of.Lts as lts
 
 abbrev Inv-loop : tie.InvT-loop
 Inv-loop s at configcount configs₀ i₀ configs i = (i ≤ configcount) × (configcount ≤ 64) × (at + configcount ≤ length s) × (configs ≡ littles 1 i (drop at s) ++ replicate (64 - i) 0)
@@ -20,32 +18,25 @@ Inv-loop s at configcount configs₀ i₀ configs i = (i ≤ configcount) × (co
 abbrev μ-loop : tie.MeasureT-loop
 μ-loop s at configcount configs₀ i₀ configs i = configcount - i
 
--- src/bodies.rt:106:5
 loop-holds : tie.Need-loop-holds Inv-loop μ-loop
 unfolding littles
 loop-holds c = (omega arith, search needs, search needs, refl)
 
--- src/bodies.rt:107:24
 add-configs : tie.Need-add-configs Inv-loop μ-loop
 add-configs c = search needs
 
--- src/bodies.rt:107:22
 shared-slice-read-configs : tie.Need-shared-slice-read-configs Inv-loop μ-loop
 shared-slice-read-configs c = search needs
 
--- src/bodies.rt:107:9
 array-write-configs : tie.Need-array-write-configs Inv-loop μ-loop
 array-write-configs c = search needs
 
--- src/bodies.rt:108:9
 add-i : tie.Need-add-i Inv-loop μ-loop
 add-i c = search needs
 
--- src/bodies.rt:106:5
 loop-less : tie.Need-loop-less Inv-loop μ-loop
 loop-less c = search needs
 
--- src/bodies.rt:106:5
 loop-again : tie.Need-loop-again Inv-loop μ-loop
 loop-again c =
     let at = c .before .before in
@@ -56,7 +47,6 @@ loop-again c =
     let v = byte-at s (a .at + at .loop .i) (omega (arith, i .2)) ∙ ap (little 1) (sym (drop-drop (1 * at .loop .i) (a .at) s ∙ ap (λ (k : ℕ). drop k s) e)) in
     (omega arith, i .1, i .2, rw (i .3, v) (row-turn (littles 1 (at .loop .i) (drop (a .at) s)) _ _ 0 (at .loop .i) 64 (length-littles 1 (at .loop .i) (drop (a .at) s)) (search needs) (littles-more 1 (at .loop .i) (drop (a .at) s))))
 
--- src/bodies.rt:100:1
 returns : tie.Need-returns Inv-loop μ-loop
 returns c =
     let at = c .before in

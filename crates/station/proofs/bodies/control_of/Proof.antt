@@ -5,51 +5,37 @@ use Rattle.station.proofs.Reading.{control-read}
 use borrow.Author.Needs.{needs}
 use Rattle.station.proofs.bodies.control_of.Statement.{statement}
 use Rattle.station.proofs.bodies.control_of.Tie as tie
-use Rattle.station.proofs.bodies.control_of.Reads as reads
-use Rattle.station.proofs.bodies.control_of.Lts as lts
-use Rattle.station.proofs.numbers.words_from.Reads as words-from-reads
 
--- src/bodies.rt:25:13
 words-from-requires : tie.Need-words-from-requires
 words-from-requires c κs = search needs
 
--- src/bodies.rt:27:19
 array-read-t6 : tie.Need-array-read-t6
 array-read-t6 c = search needs
 
--- src/bodies.rt:28:19
 array-read-t9 : tie.Need-array-read-t9
 array-read-t9 c = search needs
 
--- src/bodies.rt:29:18
 array-read-t12 : tie.Need-array-read-t12
 array-read-t12 c = search needs
 
--- src/bodies.rt:30:15
 array-read-t15 : tie.Need-array-read-t15
 array-read-t15 c = search needs
 
--- src/bodies.rt:31:16
 array-read-t18 : tie.Need-array-read-t18
 array-read-t18 c = search needs
 
--- src/bodies.rt:32:12
 array-read-t21 : tie.Need-array-read-t21
 array-read-t21 c = search needs
 
--- src/bodies.rt:33:21
 array-read-t24 : tie.Need-array-read-t24
 array-read-t24 c = search needs
 
--- src/bodies.rt:34:19
 array-read-t27 : tie.Need-array-read-t27
 array-read-t27 c = search needs
 
--- src/bodies.rt:35:17
 array-read-t30 : tie.Need-array-read-t30
 array-read-t30 c = search needs
 
--- src/bodies.rt:21:1
 returns : tie.Need-returns
 returns c = control-read (c .words-from .result) (littles 4 9 (drop 32 (c .before .before .args .s .now))) (c .words-from .ensures)
 

@@ -11,31 +11,19 @@ use Rattle.station.proofs.ContentsOrder.{contents-fit}
 use borrow.Author.Needs.{needs}
 use Rattle.station.proofs.bodies.record_of.Statement.{statement}
 use Rattle.station.proofs.bodies.record_of.Tie as tie
-use Rattle.station.proofs.bodies.record_of.Reads as reads
-use Rattle.station.proofs.bodies.record_of.Lts as lts
-use Rattle.station.proofs.bodies.battery_of.Reads as battery-of-reads
-use Rattle.station.proofs.bodies.configurations_of.Reads as configurations-of-reads
-use Rattle.station.proofs.bodies.control_of.Reads as control-of-reads
-use Rattle.station.proofs.bodies.sets_of.Reads as sets-of-reads
-use Rattle.station.proofs.numbers.number_at.Reads as number-at-reads
 
--- src/bodies.rt:120:20
 number-at-requires : tie.Need-number-at-requires
 number-at-requires c κs = let s = c .before .args .s .now in let f = contents-fit s (c .before .pre) in (omega (arith, f .2), omega arith)
 
--- src/bodies.rt:121:23
 number-at-requires-2 : tie.Need-number-at-requires-2
 number-at-requires-2 c κs = let a = c .before .before in let f = contents-fit (a .args .s .now) (a .pre) in (omega (arith, f .2), omega arith)
 
--- src/bodies.rt:122:9
 control-of-requires : tie.Need-control-of-requires
 control-of-requires c κs = let a = c .before .before .before in contents-fit (a .args .s .now) (a .pre) .2
 
--- src/bodies.rt:123:9
 battery-of-requires : tie.Need-battery-of-requires
 battery-of-requires c κs = let a = c .before .before .before .before in contents-fit (a .args .s .now) (a .pre) .2
 
--- src/bodies.rt:124:9
 sets-of-requires : tie.Need-sets-of-requires
 sets-of-requires c κs =
     let n = c .before .before .before in
@@ -44,15 +32,12 @@ sets-of-requires c κs =
     let e = n .number-at .ensures .0 in
     (rw e (f .0), rw e (omega (arith, f .3)))
 
--- src/bodies.rt:125:54
 mul-configurations-of : tie.Need-mul-configurations-of
 mul-configurations-of c = search needs
 
--- src/bodies.rt:125:40
 add-configurations-of : tie.Need-add-configurations-of
 add-configurations-of c = search needs
 
--- src/bodies.rt:125:9
 configurations-of-requires : tie.Need-configurations-of-requires
 configurations-of-requires c κs =
     let m = c .before .before .before in
@@ -61,7 +46,6 @@ configurations-of-requires c κs =
     let f = contents-fit (a .args .s .now) (a .pre) in
     (rw (m .number-at2 .ensures .0) (f .1), rw (m .number-at2 .ensures .0, n .number-at .ensures .0) (omega (arith, f .3)))
 
--- src/bodies.rt:116:1
 returns : tie.Need-returns
 unfolding recordOf
 returns c =

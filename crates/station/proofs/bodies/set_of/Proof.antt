@@ -5,79 +5,58 @@ use Rattle.station.proofs.Reading.{set-read}
 use borrow.Author.Needs.{needs}
 use Rattle.station.proofs.bodies.set_of.Statement.{statement}
 use Rattle.station.proofs.bodies.set_of.Tie as tie
-use Rattle.station.proofs.bodies.set_of.Reads as reads
-use Rattle.station.proofs.bodies.set_of.Lts as lts
-use Rattle.station.proofs.numbers.words_from.Reads as words-from-reads
 
--- src/bodies.rt:57:13
 words-from-requires : tie.Need-words-from-requires
 words-from-requires c κs = search needs
 
--- src/bodies.rt:59:17
 array-read-t7 : tie.Need-array-read-t7
 array-read-t7 c = search needs
 
--- src/bodies.rt:60:17
 array-read-t10 : tie.Need-array-read-t10
 array-read-t10 c = search needs
 
--- src/bodies.rt:61:19
 array-read-t13 : tie.Need-array-read-t13
 array-read-t13 c = search needs
 
--- src/bodies.rt:62:19
 array-read-t16 : tie.Need-array-read-t16
 array-read-t16 c = search needs
 
--- src/bodies.rt:63:18
 array-read-t19 : tie.Need-array-read-t19
 array-read-t19 c = search needs
 
--- src/bodies.rt:64:17
 array-read-t22 : tie.Need-array-read-t22
 array-read-t22 c = search needs
 
--- src/bodies.rt:65:17
 array-read-t25 : tie.Need-array-read-t25
 array-read-t25 c = search needs
 
--- src/bodies.rt:65:23
 array-read-t28 : tie.Need-array-read-t28
 array-read-t28 c = search needs
 
--- src/bodies.rt:65:29
 array-read-t31 : tie.Need-array-read-t31
 array-read-t31 c = search needs
 
--- src/bodies.rt:65:36
 array-read-t34 : tie.Need-array-read-t34
 array-read-t34 c = search needs
 
--- src/bodies.rt:65:43
 array-read-t37 : tie.Need-array-read-t37
 array-read-t37 c = search needs
 
--- src/bodies.rt:66:17
 array-read-t41 : tie.Need-array-read-t41
 array-read-t41 c = search needs
 
--- src/bodies.rt:66:23
 array-read-t44 : tie.Need-array-read-t44
 array-read-t44 c = search needs
 
--- src/bodies.rt:66:29
 array-read-t47 : tie.Need-array-read-t47
 array-read-t47 c = search needs
 
--- src/bodies.rt:66:36
 array-read-t50 : tie.Need-array-read-t50
 array-read-t50 c = search needs
 
--- src/bodies.rt:66:43
 array-read-t53 : tie.Need-array-read-t53
 array-read-t53 c = search needs
 
--- src/bodies.rt:53:1
 returns : tie.Need-returns
 returns c = let a = c .before .before .args in set-read (c .words-from .result) (littles 4 16 (drop (a .at) (a .s .now))) (c .words-from .ensures)
 

@@ -13,10 +13,6 @@ use Rattle.rules.proofs.StationRead.{length-setsOf}
 use Rattle.station.proofs.Reading.{sets-more, row-turn}
 use Rattle.station.proofs.bodies.sets_of.Statement.{statement}
 use Rattle.station.proofs.bodies.sets_of.Tie as tie
-use Rattle.station.proofs.bodies.sets_of.Reads as reads
-use Rattle.station.proofs.bodies.sets_of.Lts as lts
-use Rattle.station.proofs.bodies.no_set.Reads as no-set-reads
-use Rattle.station.proofs.bodies.set_of.Reads as set-of-reads
 
 abbrev Inv-loop : tie.InvT-loop
 Inv-loop s setcount sets₀ i₀ sets i = (i ≤ setcount) × (setcount ≤ 8) × (100 + 64 * setcount ≤ length s) × (sets ≡ setsOf i (drop 100 s) ++ replicate (8 - i) noSet)
@@ -24,44 +20,34 @@ Inv-loop s setcount sets₀ i₀ sets i = (i ≤ setcount) × (setcount ≤ 8) �
 abbrev μ-loop : tie.MeasureT-loop
 μ-loop s setcount sets₀ i₀ sets i = setcount - i
 
--- src/bodies.rt:89:9
 no-set-requires : tie.Need-no-set-requires Inv-loop μ-loop
 no-set-requires c κs = search needs
 
--- src/bodies.rt:92:5
 loop-holds : tie.Need-loop-holds Inv-loop μ-loop
 unfolding setsOf
 loop-holds c = (omega arith, search needs, search needs, rw (c .no-set .ensures))
 
--- src/bodies.rt:93:41
 mul-set-of : tie.Need-mul-set-of Inv-loop μ-loop
 mul-set-of c = search needs
 
--- src/bodies.rt:93:27
 add-set-of : tie.Need-add-set-of Inv-loop μ-loop
 add-set-of c = search needs
 
--- src/bodies.rt:93:13
 set-of-requires : tie.Need-set-of-requires Inv-loop μ-loop
 set-of-requires c κs = search needs
 
--- src/bodies.rt:94:9
 mul-sets : tie.Need-mul-sets Inv-loop μ-loop
 mul-sets c = search needs
 
--- src/bodies.rt:94:9
 array-set-from-sets : tie.Need-array-set-from-sets Inv-loop μ-loop
 array-set-from-sets c = search needs
 
--- src/bodies.rt:95:9
 add-i : tie.Need-add-i Inv-loop μ-loop
 add-i c = search needs
 
--- src/bodies.rt:92:5
 loop-less : tie.Need-loop-less Inv-loop μ-loop
 loop-less c = search needs
 
--- src/bodies.rt:92:5
 loop-again : tie.Need-loop-again Inv-loop μ-loop
 loop-again c =
     let at = c .before .before in
@@ -71,7 +57,6 @@ loop-again c =
     let v = c .set-of .ensures ∙ ap (λ (l : List ℕ). setOf (littles 4 16 l)) (sym (drop-drop (64 * at .loop .i) 100 s)) in
     (omega arith, i .1, i .2, rw (i .3, v) (row-turn (setsOf (at .loop .i) (drop 100 s)) _ _ noSet (at .loop .i) 8 (length-setsOf (at .loop .i) (drop 100 s)) (search needs) (sets-more (at .loop .i) (drop 100 s))))
 
--- src/bodies.rt:85:1
 returns : tie.Need-returns Inv-loop μ-loop
 returns c =
     let at = c .before in

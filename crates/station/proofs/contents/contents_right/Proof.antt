@@ -10,10 +10,6 @@ use Rattle.station.proofs.ContentsOrder.{too-short, too-long, entry-1, 
 use borrow.Author.Needs.{needs}
 use Rattle.station.proofs.contents.contents_right.Statement.{statement}
 use Rattle.station.proofs.contents.contents_right.Tie as tie
-use Rattle.station.proofs.contents.contents_right.Reads as reads
-use Rattle.station.proofs.contents.contents_right.Lts as lts
-use Rattle.station.proofs.contents.entry_right.Reads as entry-right-reads
-use Rattle.station.proofs.numbers.number_at.Reads as number-at-reads
 
 -- what each entry that was passed says
 
@@ -34,60 +30,47 @@ fourth-is : (c : tie.After-entry-right4)
     → c .entry-right4 .result ≡ entryRight (file (c .before .before .before .before .before .before .before .before)) 3 4 1 64 (configsOffset (countAt (file (c .before .before .before .before .before .before .before .before)) 2))
 fourth-is c = c .entry-right4 .ensures ∙ ap (λ (n : ℕ). entryRight (file (c .before .before .before .before .before .before .before .before)) 3 4 1 64 (configsOffset n)) (c .before .number-at .ensures .0)
 
--- src/contents.rt:32:9
 returns : tie.Need-returns
 returns c = too-short (c .before .before .args .s .now) (search needs)
 
--- src/contents.rt:35:9
 returns-2 : tie.Need-returns-2
 returns-2 c = too-long (c .before .before .before .args .s .now) (search needs)
 
--- src/contents.rt:37:9
 entry-right-requires : tie.Need-entry-right-requires
 entry-right-requires c κs = search needs
 
--- src/contents.rt:38:9
 returns-3 : tie.Need-returns-3
 returns-3 c = entry-1 (file (c .before .before)) (search needs) (search needs) (sym (c .before .entry-right .ensures) ∙ not-true _ (c .if3 .taken))
 
--- src/contents.rt:40:9
 entry-right-requires-2 : tie.Need-entry-right-requires-2
 entry-right-requires-2 c κs = search needs
 
--- src/contents.rt:41:9
 returns-4 : tie.Need-returns-4
 returns-4 c =
     let one = c .before .before in
     entry-2 (file (one .before .before)) (search needs) (search needs) (first one) (sym (c .before .entry-right2 .ensures) ∙ not-true _ (c .if4 .taken))
 
--- src/contents.rt:43:9
 entry-right-requires-3 : tie.Need-entry-right-requires-3
 entry-right-requires-3 c κs = search needs
 
--- src/contents.rt:44:9
 returns-5 : tie.Need-returns-5
 returns-5 c =
     let two = c .before .before in
     let one = two .before .before in
     entry-3 (file (one .before .before)) (search needs) (search needs) (first one) (second two) (sym (c .before .entry-right3 .ensures) ∙ not-true _ (c .if5 .taken))
 
--- src/contents.rt:46:51
 number-at-requires : tie.Need-number-at-requires
 number-at-requires c κs = search needs
 
--- src/contents.rt:46:40
 mul-configs-offset : tie.Need-mul-configs-offset
 mul-configs-offset c = search needs
 
--- src/contents.rt:46:26
 add-configs-offset : tie.Need-add-configs-offset
 add-configs-offset c = search needs
 
--- src/contents.rt:47:9
 entry-right-requires-4 : tie.Need-entry-right-requires-4
 entry-right-requires-4 c κs = search needs
 
--- src/contents.rt:48:9
 returns-6 : tie.Need-returns-6
 returns-6 c =
     let three = c .before .before .before in
@@ -95,15 +78,12 @@ returns-6 c =
     let one = two .before .before in
     entry-4 (file (one .before .before)) (search needs) (search needs) (first one) (second two) (third three) (sym (fourth-is (c .before)) ∙ not-true _ (c .if6 .taken))
 
--- src/contents.rt:50:33
 number-at-requires-2 : tie.Need-number-at-requires-2
 number-at-requires-2 c κs = search needs
 
--- src/contents.rt:50:16
 add-if7 : tie.Need-add-if7
 add-if7 c = search needs
 
--- src/contents.rt:51:9
 returns-7 : tie.Need-returns-7
 returns-7 c =
     let four = c .before .before in
@@ -114,7 +94,6 @@ returns-7 c =
     size-last s (search needs) (search needs) (first one) (second two) (third three) (sym (fourth-is (four .before)) ∙ not-false _ (four .if6 .left))
     (ne-eqb (length s) (configsOffset (countAt s 2) + countAt s 3) (λ z. c .if7 .taken (z ∙ ap₂ (λ (m n : ℕ). configsOffset m + n) (sym (four .before .before .number-at .ensures .0)) (sym (c .before .number-at2 .ensures .0)))))
 
--- src/contents.rt:27:1
 returns-8 : tie.Need-returns-8
 returns-8 c =
     let four = c .before .before in

@@ -3,35 +3,25 @@ use Rattle.rules.specs.StationFile.{entryRight}
 use borrow.Author.Needs.{needs}
 use Rattle.station.proofs.contents.entry_right.Statement.{statement}
 use Rattle.station.proofs.contents.entry_right.Tie as tie
-use Rattle.station.proofs.contents.entry_right.Reads as reads
-use Rattle.station.proofs.contents.entry_right.Lts as lts
-use Rattle.station.proofs.numbers.number_at.Reads as number-at-reads
 
--- src/contents.rt:20:14
 mul-at : tie.Need-mul-at
 mul-at c = search needs
 
--- src/contents.rt:21:30
 add-number-at : tie.Need-add-number-at
 add-number-at c = search needs
 
--- src/contents.rt:21:9
 number-at-requires : tie.Need-number-at-requires
 number-at-requires c κs = search needs
 
--- src/contents.rt:22:6
 number-at-requires-2 : tie.Need-number-at-requires-2
 number-at-requires-2 c κs = search needs
 
--- src/contents.rt:24:25
 add-number-at-2 : tie.Need-add-number-at-2
 add-number-at-2 c = search needs
 
--- src/contents.rt:24:12
 number-at-requires-3 : tie.Need-number-at-requires-3
 number-at-requires-3 c κs = search needs
 
--- src/contents.rt:16:1
 returns : tie.Need-returns
 unfolding entryRight
 returns c = rw (c .number-at3 .ensures .0, c .before .number-at2 .ensures .0, c .before .before .number-at .ensures .0)

@@ -3,15 +3,10 @@ use Rattle.rules.specs.StationRecord.{noStation}
 use borrow.Author.Needs.{needs}
 use Rattle.station.proofs.reader.no_station.Statement.{statement}
 use Rattle.station.proofs.reader.no_station.Tie as tie
-use Rattle.station.proofs.reader.no_station.Reads as reads
-use Rattle.station.proofs.reader.no_station.Lts as lts
-use Rattle.station.proofs.bodies.no_set.Reads as no-set-reads
 
--- src/reader.rt:42:9
 no-set-requires : tie.Need-no-set-requires
 no-set-requires c κs = search needs
 
--- src/reader.rt:21:1
 returns : tie.Need-returns
 unfolding noStation
 returns c = rw (c .no-set .ensures)

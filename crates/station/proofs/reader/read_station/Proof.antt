@@ -6,29 +6,19 @@ use Rattle.station.proofs.ContentsOrder.{counts-read, contents-refused,
 use borrow.Author.Needs.{needs}
 use Rattle.station.proofs.reader.read_station.Statement.{statement}
 use Rattle.station.proofs.reader.read_station.Tie as tie
-use Rattle.station.proofs.reader.read_station.Reads as reads
-use Rattle.station.proofs.reader.read_station.Lts as lts
-use Rattle.station.proofs.bodies.record_of.Reads as record-of-reads
-use Rattle.station.proofs.contents.contents_right.Reads as contents-right-reads
-use Rattle.station.proofs.reader.refused.Reads as refused-reads
-use Rattle.station.proofs.values.values_right.Reads as values-right-reads
 
--- src/reader.rt:64:9
 contents-right-requires : tie.Need-contents-right-requires
 contents-right-requires c κs = search needs
 
 enum-told : tie.Need-enum-told
 enum-told c = search needs
 
--- src/reader.rt:66:9
 enum-told-2 : tie.Need-enum-told-2
 enum-told-2 c = search needs
 
--- src/reader.rt:66:9
 refused-requires : tie.Need-refused-requires
 refused-requires c κs = search needs
 
--- src/reader.rt:66:9
 returns : tie.Need-returns
 returns c =
     let contents = c .before .before .before in
@@ -36,13 +26,11 @@ returns c =
     let r = contents-refused s (contents .contents-right .result) (contents .contents-right .ensures) _ (c .before .enum-told2 .given .1) in
     (ap verdictOf (c .refused .ensures .0) ∙ r .0, c .refused .ensures .1 ∙ r .1)
 
--- src/reader.rt:68:9
 record-of-requires : tie.Need-record-of-requires
 record-of-requires c κs =
     let contents = c .before .before in
     contents-passed (contents .before .before .args .s .now) _ (contents .contents-right .ensures) (c .enum-told .given .1)
 
--- src/reader.rt:69:9
 values-right-requires : tie.Need-values-right-requires
 values-right-requires c κs =
     let contents = c .before .before .before in
@@ -52,15 +40,12 @@ values-right-requires c κs =
 enum-told-3 : tie.Need-enum-told-3
 enum-told-3 c = search needs
 
--- src/reader.rt:71:9
 enum-told-4 : tie.Need-enum-told-4
 enum-told-4 c = search needs
 
--- src/reader.rt:71:9
 refused-requires-2 : tie.Need-refused-requires-2
 refused-requires-2 c κs = search needs
 
--- src/reader.rt:71:9
 returns-2 : tie.Need-returns-2
 returns-2 c =
     let values = c .before .before .before in
@@ -71,7 +56,6 @@ returns-2 c =
     let r = values-refused s _ (contents .contents-right .ensures) (told .enum-told .given .1) (values .values-right .result) w _ (c .before .enum-told4 .given .1) in
     (ap verdictOf (c .refused2 .ensures .0) ∙ r .0, c .refused2 .ensures .1 ∙ r .1)
 
--- src/reader.rt:60:1
 returns-3 : tie.Need-returns-3
 returns-3 c =
     let values = c .before .before in

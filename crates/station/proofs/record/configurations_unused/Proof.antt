@@ -10,8 +10,6 @@ use Rattle.rules.specs.Numbers.{allZero}
 use Rattle.rules.proofs.Tests.{every-turn, every-end}
 use Rattle.station.proofs.record.configurations_unused.Statement.{statement}
 use Rattle.station.proofs.record.configurations_unused.Tie as tie
-use Rattle.station.proofs.record.configurations_unused.Reads as reads
-use Rattle.station.proofs.record.configurations_unused.Lts as lts
 
 abbrev Inv-loop : tie.InvT-loop
 Inv-loop from configs ok₀ i₀ ok i = (length configs ≡ 64) × (allZero (drop from configs) ≡ ok && allZero (drop i configs))
@@ -19,23 +17,18 @@ Inv-loop from configs ok₀ i₀ ok i = (length configs ≡ 64) × (allZero (dro
 abbrev μ-loop : tie.MeasureT-loop
 μ-loop from configs ok₀ i₀ ok i = 64 - i
 
--- src/record.rt:56:5
 loop-holds : tie.Need-loop-holds Inv-loop μ-loop
 loop-holds c = (search needs, refl)
 
--- src/record.rt:57:20
 array-read-ok : tie.Need-array-read-ok Inv-loop μ-loop
 array-read-ok c = search needs
 
--- src/record.rt:58:9
 add-i : tie.Need-add-i Inv-loop μ-loop
 add-i c = search needs
 
--- src/record.rt:56:5
 loop-less : tie.Need-loop-less Inv-loop μ-loop
 loop-less c = search needs
 
--- src/record.rt:56:5
 loop-again : tie.Need-loop-again Inv-loop μ-loop
 loop-again c =
     let at = c .before in
@@ -43,7 +36,6 @@ loop-again c =
     let i = at .loop .inv in
     (i .0, every-turn (λ x. eqb x 0) (a .t1) (at .loop .i) (allZero (drop (a .from) (a .t1))) (at .loop .ok) (i .1) 0 _ (omega (arith, i .0)) refl)
 
--- src/record.rt:51:1
 returns : tie.Need-returns Inv-loop μ-loop
 returns c =
     let at = c .before in

@@ -10,8 +10,6 @@ use Rattle.rules.specs.Numbers.{allZero}
 use Rattle.rules.proofs.Tests.{every-turn, every-end}
 use Rattle.station.proofs.record.pairs_unused.Statement.{statement}
 use Rattle.station.proofs.record.pairs_unused.Tie as tie
-use Rattle.station.proofs.record.pairs_unused.Reads as reads
-use Rattle.station.proofs.record.pairs_unused.Lts as lts
 
 abbrev Inv-loop : tie.InvT-loop
 Inv-loop numbers ok₀ i₀ ok i = (i ≤ 5) × (length numbers ≡ 5) × (allZero numbers ≡ ok && allZero (drop i numbers))
@@ -19,27 +17,21 @@ Inv-loop numbers ok₀ i₀ ok i = (i ≤ 5) × (length numbers ≡ 5) × (allZe
 abbrev μ-loop : tie.MeasureT-loop
 μ-loop numbers ok₀ i₀ ok i = 5 - i
 
--- src/record.rt:16:5
 loop-holds : tie.Need-loop-holds Inv-loop μ-loop
 loop-holds c = (omega arith, search needs, refl)
 
--- src/record.rt:17:20
 mul-ok : tie.Need-mul-ok Inv-loop μ-loop
 mul-ok c = search needs
 
--- src/record.rt:17:20
 array-read-ok : tie.Need-array-read-ok Inv-loop μ-loop
 array-read-ok c = search needs
 
--- src/record.rt:18:9
 add-i : tie.Need-add-i Inv-loop μ-loop
 add-i c = search needs
 
--- src/record.rt:16:5
 loop-less : tie.Need-loop-less Inv-loop μ-loop
 loop-less c = search needs
 
--- src/record.rt:16:5
 loop-again : tie.Need-loop-again Inv-loop μ-loop
 loop-again c =
     let at = c .before in
@@ -47,7 +39,6 @@ loop-again c =
     let i = at .loop .inv in
     (omega arith, i .1, every-turn (λ x. eqb x 0) s (at .loop .i) (allZero s) (at .loop .ok) (i .2) 0 _ (omega (arith, i .1)) refl)
 
--- src/record.rt:11:1
 returns : tie.Need-returns Inv-loop μ-loop
 returns c =
     let at = c .before in

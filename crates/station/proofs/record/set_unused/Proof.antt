@@ -2,19 +2,13 @@
 use borrow.Author.Needs.{needs}
 use Rattle.station.proofs.record.set_unused.Statement.{statement}
 use Rattle.station.proofs.record.set_unused.Tie as tie
-use Rattle.station.proofs.record.set_unused.Reads as reads
-use Rattle.station.proofs.record.set_unused.Lts as lts
-use Rattle.station.proofs.record.pairs_unused.Reads as pairs-unused-reads
 
--- src/record.rt:34:11
 pairs-unused-requires : tie.Need-pairs-unused-requires
 pairs-unused-requires c κs = search needs
 
--- src/record.rt:35:11
 pairs-unused-requires-2 : tie.Need-pairs-unused-requires-2
 pairs-unused-requires-2 c κs = search needs
 
--- src/record.rt:23:1
 returns : tie.Need-returns
 returns c = rw (c .pairs-unused2 .ensures, c .before .pairs-unused .ensures)
 

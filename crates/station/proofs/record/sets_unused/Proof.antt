@@ -10,9 +10,6 @@ use Rattle.rules.specs.StationRecord.{pastEnd, setUnused}
 use Rattle.rules.proofs.Tests.{every-turn, every-end}
 use Rattle.station.proofs.record.sets_unused.Statement.{statement}
 use Rattle.station.proofs.record.sets_unused.Tie as tie
-use Rattle.station.proofs.record.sets_unused.Reads as reads
-use Rattle.station.proofs.record.sets_unused.Lts as lts
-use Rattle.station.proofs.record.set_unused.Reads as set-unused-reads
 
 abbrev Inv-loop : tie.InvT-loop
 Inv-loop from sets ok₀ i₀ ok i = (length sets ≡ 8) × (every setUnused (drop from sets) ≡ ok && every setUnused (drop i sets))
@@ -20,31 +17,24 @@ Inv-loop from sets ok₀ i₀ ok i = (length sets ≡ 8) × (every setUnused (dr
 abbrev μ-loop : tie.MeasureT-loop
 μ-loop from sets ok₀ i₀ ok i = 8 - i
 
--- src/record.rt:43:5
 loop-holds : tie.Need-loop-holds Inv-loop μ-loop
 loop-holds c = (search needs, refl)
 
--- src/record.rt:44:17
 mul-g : tie.Need-mul-g Inv-loop μ-loop
 mul-g c = search needs
 
--- src/record.rt:44:17
 array-copy-out-g : tie.Need-array-copy-out-g Inv-loop μ-loop
 array-copy-out-g c = search needs
 
--- src/record.rt:45:19
 set-unused-requires : tie.Need-set-unused-requires Inv-loop μ-loop
 set-unused-requires c κs = search needs
 
--- src/record.rt:46:9
 add-i : tie.Need-add-i Inv-loop μ-loop
 add-i c = search needs
 
--- src/record.rt:43:5
 loop-less : tie.Need-loop-less Inv-loop μ-loop
 loop-less c = search needs
 
--- src/record.rt:43:5
 loop-again : tie.Need-loop-again Inv-loop μ-loop
 unfolding pastEnd
 loop-again c =
@@ -53,7 +43,6 @@ loop-again c =
     let i = at .loop .inv in
     (i .0, every-turn setUnused (a .t1) (at .loop .i) (every setUnused (drop (a .from) (a .t1))) (at .loop .ok) (i .1) pastEnd _ (omega (arith, i .0)) (c .set-unused .ensures))
 
--- src/record.rt:38:1
 returns : tie.Need-returns Inv-loop μ-loop
 returns c =
     let at = c .before in

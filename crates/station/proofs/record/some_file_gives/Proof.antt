@@ -4,43 +4,31 @@ use Rattle.station.proofs.ContentsOrder.{counts-range, counts-first, va
 use borrow.Author.Needs.{needs}
 use Rattle.station.proofs.record.some_file_gives.Statement.{statement}
 use Rattle.station.proofs.record.some_file_gives.Tie as tie
-use Rattle.station.proofs.record.some_file_gives.Reads as reads
-use Rattle.station.proofs.record.some_file_gives.Lts as lts
-use Rattle.station.proofs.record.configurations_unused.Reads as configurations-unused-reads
-use Rattle.station.proofs.record.sets_unused.Reads as sets-unused-reads
-use Rattle.station.proofs.values.values_right.Reads as values-right-reads
 
--- src/record.rt:69:9
 returns : tie.Need-returns
 returns c = counts-first (c .before .args .st) (not-true _ (c .if1 .taken))
 
--- src/record.rt:71:9
 values-right-requires : tie.Need-values-right-requires
 values-right-requires c κs = counts-range (c .before .args .st .setcount) (c .before .args .st .configcount) (not-false _ (c .if1 .left))
 
 enum-told : tie.Need-enum-told
 enum-told c = search needs
 
--- src/record.rt:73:9
 enum-told-2 : tie.Need-enum-told-2
 enum-told-2 c = search needs
 
--- src/record.rt:73:9
 returns-2 : tie.Need-returns-2
 returns-2 c =
     let values = c .before .before in
     let one = values .before in
     values-next (one .before .args .st) (not-false _ (one .if1 .left)) _ (values .values-right .ensures) _ (c .enum-told2 .given .1)
 
--- src/record.rt:77:5
 sets-unused-requires : tie.Need-sets-unused-requires
 sets-unused-requires c κs = search needs
 
--- src/record.rt:77:35
 configurations-unused-requires : tie.Need-configurations-unused-requires
 configurations-unused-requires c κs = search needs
 
--- src/record.rt:63:1
 returns-3 : tie.Need-returns-3
 returns-3 c =
     let told = c .before .before .before .before in

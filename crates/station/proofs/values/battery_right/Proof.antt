@@ -3,10 +3,7 @@ use mathlib.Core.Path.{refl}
 use Rattle.rules.specs.StationRecord.{batteryRight}
 use Rattle.station.proofs.values.battery_right.Statement.{statement}
 use Rattle.station.proofs.values.battery_right.Tie as tie
-use Rattle.station.proofs.values.battery_right.Reads as reads
-use Rattle.station.proofs.values.battery_right.Lts as lts
 
--- src/values.rt:28:1
 returns : tie.Need-returns
 unfolding batteryRight
 returns c = refl

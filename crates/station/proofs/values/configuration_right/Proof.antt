@@ -2,15 +2,10 @@
 use borrow.Author.Needs.{needs}
 use Rattle.station.proofs.values.configuration_right.Statement.{statement}
 use Rattle.station.proofs.values.configuration_right.Tie as tie
-use Rattle.station.proofs.values.configuration_right.Reads as reads
-use Rattle.station.proofs.values.configuration_right.Lts as lts
-use Rattle.words.proofs.masks.existing_only.Reads as existing-only-reads
 
--- src/values.rt:138:18
 existing-only-requires : tie.Need-existing-only-requires
 existing-only-requires c κs = search needs
 
--- src/values.rt:135:1
 returns : tie.Need-returns
 returns c = rw (c .existing-only .ensures)
 

@@ -8,9 +8,6 @@ use Rattle.rules.specs.StationRecord.{configurationsRight}
 use Rattle.station.proofs.Orders.{configuration-mask, configuration-in-order, configurations-in-order}
 use Rattle.station.proofs.values.configurations_right.Statement.{statement}
 use Rattle.station.proofs.values.configurations_right.Tie as tie
-use Rattle.station.proofs.values.configurations_right.Reads as reads
-use Rattle.station.proofs.values.configurations_right.Lts as lts
-use Rattle.station.proofs.values.configuration_right.Reads as configuration-right-reads
 
 abbrev Inv-loop : tie.InvT-loop
 Inv-loop configcount setcount configs i₀ i = (configcount ≤ length configs) × (configurationsRight setcount 0 (take configcount configs) ≡ configurationsRight setcount i (drop i (take configcount configs)))
@@ -18,45 +15,36 @@ Inv-loop configcount setcount configs i₀ i = (configcount ≤ length configs) 
 abbrev μ-loop : tie.MeasureT-loop
 μ-loop configcount setcount configs i₀ i = configcount - i
 
--- src/values.rt:147:5
 loop-holds : tie.Need-loop-holds Inv-loop μ-loop
 loop-holds c = (search needs, refl)
 
--- src/values.rt:148:20
 array-read-mask : tie.Need-array-read-mask Inv-loop μ-loop
 array-read-mask c = search needs
 
--- src/values.rt:149:9
 add-i : tie.Need-add-i Inv-loop μ-loop
 add-i c = search needs
 
--- src/values.rt:150:13
 configuration-right-requires : tie.Need-configuration-right-requires Inv-loop μ-loop
 configuration-right-requires c κs = search needs
 
--- src/values.rt:151:64
 cast-t12 : tie.Need-cast-t12 Inv-loop μ-loop
 cast-t12 c = search needs
 
--- src/values.rt:151:13
 returns : tie.Need-returns Inv-loop μ-loop
 returns c =
     let at = c .before .before .before in
     let a = at .before .args in
     configuration-mask (a .setcount) (a .t1) (a .configcount) _ (at .loop .i) (at .loop .inv .0) (at .loop .inv .1) (search needs) (sym (c .before .configuration-right .ensures) ∙ not-true _ (c .if1 .taken))
 
--- src/values.rt:147:5
 loop-less : tie.Need-loop-less Inv-loop μ-loop
 loop-less c = search needs
 
--- src/values.rt:147:5
 loop-again : tie.Need-loop-again Inv-loop μ-loop
 loop-again c =
     let at = c .before .before .before in
     let a = at .before .args in
     (at .loop .inv .0, configuration-in-order (a .setcount) (a .t1) (a .configcount) _ (at .loop .i) (at .loop .inv .0) (at .loop .inv .1) (search needs) (sym (c .before .configuration-right .ensures) ∙ not-false _ (c .if1 .left)))
 
--- src/values.rt:142:1
 returns-2 : tie.Need-returns-2 Inv-loop μ-loop
 returns-2 c =
     let at = c .before in

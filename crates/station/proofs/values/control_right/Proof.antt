@@ -3,19 +3,13 @@ use Rattle.rules.specs.StationRecord.{controlRight}
 use borrow.Author.Needs.{needs}
 use Rattle.station.proofs.values.control_right.Statement.{statement}
 use Rattle.station.proofs.values.control_right.Tie as tie
-use Rattle.station.proofs.values.control_right.Reads as reads
-use Rattle.station.proofs.values.control_right.Lts as lts
-use Rattle.words.proofs.masks.existing_only.Reads as existing-only-reads
 
--- src/values.rt:24:35
 cast-existing-only : tie.Need-cast-existing-only
 cast-existing-only c = search needs
 
--- src/values.rt:24:11
 existing-only-requires : tie.Need-existing-only-requires
 existing-only-requires c κs = search needs
 
--- src/values.rt:13:1
 returns : tie.Need-returns
 unfolding controlRight
 returns c = rw (c .existing-only .ensures)

@@ -10,9 +10,6 @@ use Rattle.rules.specs.StationRecord.{rises}
 use Rattle.rules.proofs.Tests.{all-turn}
 use Rattle.station.proofs.values.loads_rise.Statement.{statement}
 use Rattle.station.proofs.values.loads_rise.Tie as tie
-use Rattle.station.proofs.values.loads_rise.Reads as reads
-use Rattle.station.proofs.values.loads_rise.Lts as lts
-use Rattle.station.proofs.values.rises_at.Reads as rises-at-reads
 
 abbrev Inv-loop : tie.InvT-loop
 Inv-loop points loads ok₀ i₀ ok i = (i ≤ 4) × (ok ≡ allTo i (λ j. rises points j (getD loads j 0) (getD loads (suc j) 0)))
@@ -20,55 +17,43 @@ Inv-loop points loads ok₀ i₀ ok i = (i ≤ 4) × (ok ≡ allTo i (λ j. rise
 abbrev μ-loop : tie.MeasureT-loop
 μ-loop points loads ok₀ i₀ ok i = 4 - i
 
--- src/values.rt:100:5
 loop-holds : tie.Need-loop-holds Inv-loop μ-loop
 unfolding allTo
 loop-holds c = (omega arith, refl)
 
--- src/values.rt:101:36
 cast-rises-at : tie.Need-cast-rises-at Inv-loop μ-loop
 cast-rises-at c = search needs
 
--- src/values.rt:101:46
 mul-rises-at : tie.Need-mul-rises-at Inv-loop μ-loop
 mul-rises-at c = search needs
 
--- src/values.rt:101:46
 array-read-rises-at : tie.Need-array-read-rises-at Inv-loop μ-loop
 array-read-rises-at c = search needs
 
--- src/values.rt:101:62
 add-rises-at : tie.Need-add-rises-at Inv-loop μ-loop
 add-rises-at c = search needs
 
--- src/values.rt:101:56
 mul-rises-at-2 : tie.Need-mul-rises-at-2 Inv-loop μ-loop
 mul-rises-at-2 c = search needs
 
--- src/values.rt:101:56
 array-read-rises-at-2 : tie.Need-array-read-rises-at-2 Inv-loop μ-loop
 array-read-rises-at-2 c = search needs
 
--- src/values.rt:101:19
 rises-at-requires : tie.Need-rises-at-requires Inv-loop μ-loop
 rises-at-requires c κs = search needs
 
--- src/values.rt:102:9
 add-i : tie.Need-add-i Inv-loop μ-loop
 add-i c = search needs
 
--- src/values.rt:100:5
 loop-less : tie.Need-loop-less Inv-loop μ-loop
 loop-less c = search needs
 
--- src/values.rt:100:5
 loop-again : tie.Need-loop-again Inv-loop μ-loop
 loop-again c =
     let at = c .before .before in
     let a = at .before .args in
     (omega arith, all-turn (λ j. rises (a .points) j (getD (a .t2) j 0) (getD (a .t2) (suc j) 0)) _ _ _ (at .loop .inv .1) (rw add-one at (c .rises-at .ensures)))
 
--- src/values.rt:95:1
 returns : tie.Need-returns Inv-loop μ-loop
 returns c = let e : c .before .loop .i ≡ 4 = omega arith in rw e at (c .before .loop .inv .1)
 

@@ -2,14 +2,10 @@
 use borrow.Author.Tests.{lt-ltb, le-ltb}
 use Rattle.station.proofs.values.pair_right.Statement.{statement}
 use Rattle.station.proofs.values.pair_right.Tie as tie
-use Rattle.station.proofs.values.pair_right.Reads as reads
-use Rattle.station.proofs.values.pair_right.Lts as lts
 
--- src/values.rt:63:9
 returns : tie.Need-returns
 returns c = rw (lt-ltb (c .before .args .place) (c .before .args .points) (c .if1 .taken))
 
--- src/values.rt:59:1
 returns-2 : tie.Need-returns-2
 returns-2 c = rw (le-ltb (c .before .args .place) (c .before .args .points) (c .if1 .left))
 

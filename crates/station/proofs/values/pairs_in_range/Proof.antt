@@ -9,9 +9,6 @@ use Rattle.rules.specs.StationRecord.{pairRight}
 use Rattle.rules.proofs.Tests.{all-turn}
 use Rattle.station.proofs.values.pairs_in_range.Statement.{statement}
 use Rattle.station.proofs.values.pairs_in_range.Tie as tie
-use Rattle.station.proofs.values.pairs_in_range.Reads as reads
-use Rattle.station.proofs.values.pairs_in_range.Lts as lts
-use Rattle.station.proofs.values.pair_right.Reads as pair-right-reads
 
 abbrev Inv-loop : tie.InvT-loop
 Inv-loop points loads rates ok₀ i₀ ok i = (i ≤ 5) × (ok ≡ allTo i (λ j. pairRight points j (getD loads j 0) (getD rates j 0)))
@@ -19,51 +16,40 @@ Inv-loop points loads rates ok₀ i₀ ok i = (i ≤ 5) × (ok ≡ allTo i (λ j
 abbrev μ-loop : tie.MeasureT-loop
 μ-loop points loads rates ok₀ i₀ ok i = 5 - i
 
--- src/values.rt:88:5
 loop-holds : tie.Need-loop-holds Inv-loop μ-loop
 unfolding allTo
 loop-holds c = (omega arith, refl)
 
--- src/values.rt:89:38
 cast-pair-right : tie.Need-cast-pair-right Inv-loop μ-loop
 cast-pair-right c = search needs
 
--- src/values.rt:89:48
 mul-pair-right : tie.Need-mul-pair-right Inv-loop μ-loop
 mul-pair-right c = search needs
 
--- src/values.rt:89:48
 array-read-pair-right : tie.Need-array-read-pair-right Inv-loop μ-loop
 array-read-pair-right c = search needs
 
--- src/values.rt:89:58
 mul-pair-right-2 : tie.Need-mul-pair-right-2 Inv-loop μ-loop
 mul-pair-right-2 c = search needs
 
--- src/values.rt:89:58
 array-read-pair-right-2 : tie.Need-array-read-pair-right-2 Inv-loop μ-loop
 array-read-pair-right-2 c = search needs
 
--- src/values.rt:89:19
 pair-right-requires : tie.Need-pair-right-requires Inv-loop μ-loop
 pair-right-requires c κs = search needs
 
--- src/values.rt:90:9
 add-i : tie.Need-add-i Inv-loop μ-loop
 add-i c = search needs
 
--- src/values.rt:88:5
 loop-less : tie.Need-loop-less Inv-loop μ-loop
 loop-less c = search needs
 
--- src/values.rt:88:5
 loop-again : tie.Need-loop-again Inv-loop μ-loop
 loop-again c =
     let at = c .before .before in
     let a = at .before .args in
     (omega arith, all-turn (λ j. pairRight (a .points) j (getD (a .t2) j 0) (getD (a .t3) j 0)) _ _ _ (at .loop .inv .1) (c .pair-right .ensures))
 
--- src/values.rt:83:1
 returns : tie.Need-returns Inv-loop μ-loop
 returns c = let e : c .before .loop .i ≡ 5 = omega arith in rw e at (c .before .loop .inv .1)
 

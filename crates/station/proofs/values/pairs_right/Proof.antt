@@ -3,20 +3,13 @@ use Rattle.rules.specs.StationRecord.{pairsRight}
 use borrow.Author.Needs.{needs}
 use Rattle.station.proofs.values.pairs_right.Statement.{statement}
 use Rattle.station.proofs.values.pairs_right.Tie as tie
-use Rattle.station.proofs.values.pairs_right.Reads as reads
-use Rattle.station.proofs.values.pairs_right.Lts as lts
-use Rattle.station.proofs.values.loads_rise.Reads as loads-rise-reads
-use Rattle.station.proofs.values.pairs_in_range.Reads as pairs-in-range-reads
 
--- src/values.rt:113:5
 pairs-in-range-requires : tie.Need-pairs-in-range-requires
 pairs-in-range-requires c κs = search needs
 
--- src/values.rt:113:46
 loads-rise-requires : tie.Need-loads-rise-requires
 loads-rise-requires c κs = search needs
 
--- src/values.rt:108:1
 returns : tie.Need-returns
 unfolding pairsRight
 returns c = rw (c .loads-rise .ensures, c .before .pairs-in-range .ensures)

@@ -5,18 +5,13 @@ use borrow.Author.Tests.{lt-ltb, le-ltb}
 use borrow.Author.Needs.{needs}
 use Rattle.station.proofs.values.rises_at.Statement.{statement}
 use Rattle.station.proofs.values.rises_at.Tie as tie
-use Rattle.station.proofs.values.rises_at.Reads as reads
-use Rattle.station.proofs.values.rises_at.Lts as lts
 
--- src/values.rt:72:8
 add-if1 : tie.Need-add-if1
 add-if1 c = search needs
 
--- src/values.rt:73:9
 returns : tie.Need-returns
 returns c = rw (lt-ltb (suc (c .before .args .place)) (c .before .args .points) (omega (arith, c .if1 .taken)))
 
--- src/values.rt:68:1
 returns-2 : tie.Need-returns-2
 returns-2 c = rw (le-ltb (suc (c .before .args .place)) (c .before .args .points) (omega (arith, c .if1 .left)))
 

@@ -9,10 +9,6 @@ use Rattle.rules.specs.StationRecord.{pastEnd, setAt, setsRight}
 use Rattle.station.proofs.Orders.{set-number, set-pairs, set-in-order, sets-in-order}
 use Rattle.station.proofs.values.sets_right.Statement.{statement}
 use Rattle.station.proofs.values.sets_right.Tie as tie
-use Rattle.station.proofs.values.sets_right.Reads as reads
-use Rattle.station.proofs.values.sets_right.Lts as lts
-use Rattle.station.proofs.values.pairs_right.Reads as pairs-right-reads
-use Rattle.station.proofs.values.set_right.Reads as set-right-reads
 
 abbrev Inv-loop : tie.InvT-loop
 Inv-loop setcount sets i₀ i = (setcount ≤ 8) × (setcount ≤ length sets) × (setsRight 0 (take setcount sets) ≡ setsRight i (drop i (take setcount sets)))
@@ -20,35 +16,27 @@ Inv-loop setcount sets i₀ i = (setcount ≤ 8) × (setcount ≤ length sets) �
 abbrev μ-loop : tie.MeasureT-loop
 μ-loop setcount sets i₀ i = setcount - i
 
--- src/values.rt:122:5
 loop-holds : tie.Need-loop-holds Inv-loop μ-loop
 loop-holds c = let l : length (c .args .t1) ≡ 8 = search needs in (c .pre, omega (arith, l, c .pre), refl)
 
--- src/values.rt:123:17
 mul-g : tie.Need-mul-g Inv-loop μ-loop
 mul-g c = search needs
 
--- src/values.rt:123:17
 array-copy-out-g : tie.Need-array-copy-out-g Inv-loop μ-loop
 array-copy-out-g c = search needs
 
--- src/values.rt:124:9
 add-i : tie.Need-add-i Inv-loop μ-loop
 add-i c = search needs
 
--- src/values.rt:125:13
 set-right-requires : tie.Need-set-right-requires Inv-loop μ-loop
 set-right-requires c κs = search needs
 
--- src/values.rt:126:13
 pairs-right-requires : tie.Need-pairs-right-requires Inv-loop μ-loop
 pairs-right-requires c κs = search needs
 
--- src/values.rt:128:56
 cast-t13 : tie.Need-cast-t13 Inv-loop μ-loop
 cast-t13 c = search needs
 
--- src/values.rt:128:13
 returns : tie.Need-returns Inv-loop μ-loop
 unfolding setAt pastEnd
 returns c =
@@ -57,11 +45,9 @@ returns c =
     let a = at .before .args in
     set-number (a .t1) (a .setcount) _ (at .loop .i) (at .loop .inv .1) (at .loop .inv .2) (search needs) (sym (set .set-right .ensures) ∙ not-true _ (c .if1 .taken))
 
--- src/values.rt:131:55
 cast-t15 : tie.Need-cast-t15 Inv-loop μ-loop
 cast-t15 c = search needs
 
--- src/values.rt:131:13
 returns-2 : tie.Need-returns-2 Inv-loop μ-loop
 unfolding setAt pastEnd
 returns-2 c =
@@ -71,11 +57,9 @@ returns-2 c =
     let a = at .before .args in
     set-pairs (a .t1) (a .setcount) _ (at .loop .i) (at .loop .inv .1) (at .loop .inv .2) (search needs) (sym (set .set-right .ensures) ∙ not-false _ (one .if1 .left)) (sym (one .before .pairs-right .ensures) ∙ not-true _ (c .if2 .taken))
 
--- src/values.rt:122:5
 loop-less : tie.Need-loop-less Inv-loop μ-loop
 loop-less c = search needs
 
--- src/values.rt:122:5
 loop-again : tie.Need-loop-again Inv-loop μ-loop
 unfolding setAt pastEnd
 loop-again c =
@@ -86,7 +70,6 @@ loop-again c =
     let fits = at .loop .inv .1 in
     (at .loop .inv .0, fits, set-in-order (a .t1) (a .setcount) _ (at .loop .i) fits (at .loop .inv .2) (search needs) (sym (set .set-right .ensures) ∙ not-false _ (one .if1 .left)) (sym (one .before .pairs-right .ensures) ∙ not-false _ (c .if2 .left)))
 
--- src/values.rt:117:1
 returns-3 : tie.Need-returns-3 Inv-loop μ-loop
 returns-3 c =
     let at = c .before in

@@ -5,46 +5,33 @@ use Rattle.station.proofs.Orders.{control-first, battery-next, sets-nex
 use borrow.Author.Needs.{needs}
 use Rattle.station.proofs.values.values_right.Statement.{statement}
 use Rattle.station.proofs.values.values_right.Tie as tie
-use Rattle.station.proofs.values.values_right.Reads as reads
-use Rattle.station.proofs.values.values_right.Lts as lts
-use Rattle.station.proofs.values.battery_right.Reads as battery-right-reads
-use Rattle.station.proofs.values.configurations_right.Reads as configurations-right-reads
-use Rattle.station.proofs.values.control_right.Reads as control-right-reads
-use Rattle.station.proofs.values.sets_right.Reads as sets-right-reads
 
--- src/values.rt:164:9
 control-right-requires : tie.Need-control-right-requires
 control-right-requires c κs = search needs
 
--- src/values.rt:165:9
 returns : tie.Need-returns
 returns c =
     let a = c .before .before .before .args in
     control-first (a .st) (sym (c .before .control-right .ensures) ∙ not-true _ (c .if1 .taken))
 
--- src/values.rt:168:9
 battery-right-requires : tie.Need-battery-right-requires
 battery-right-requires c κs = search needs
 
--- src/values.rt:169:9
 returns-2 : tie.Need-returns-2
 returns-2 c =
     let first = c .before .before .before in
     let a = first .before .before .before .args in
     battery-next (a .st) (sym (first .before .control-right .ensures) ∙ not-false _ (first .if1 .left)) (sym (c .before .battery-right .ensures) ∙ not-true _ (c .if2 .taken))
 
--- src/values.rt:172:9
 sets-right-requires : tie.Need-sets-right-requires
 sets-right-requires c κs = search needs
 
 enum-told : tie.Need-enum-told
 enum-told c = search needs
 
--- src/values.rt:174:9
 enum-told-2 : tie.Need-enum-told-2
 enum-told-2 c = search needs
 
--- src/values.rt:174:9
 returns-3 : tie.Need-returns-3
 returns-3 c =
     let sets = c .before .before in
@@ -53,11 +40,9 @@ returns-3 c =
     let a = first .before .before .before .args in
     sets-next (a .st) (sym (first .before .control-right .ensures) ∙ not-false _ (first .if1 .left)) (sym (second .before .battery-right .ensures) ∙ not-false _ (second .if2 .left)) _ (sets .sets-right .ensures) _ (c .enum-told2 .given .1)
 
--- src/values.rt:177:5
 configurations-right-requires : tie.Need-configurations-right-requires
 configurations-right-requires c κs = search needs
 
--- src/values.rt:158:1
 returns-4 : tie.Need-returns-4
 returns-4 c =
     let told = c .before .before in

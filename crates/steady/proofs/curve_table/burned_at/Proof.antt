@@ -1,8 +1,6 @@
 -- `steady::curve_table::burned_at` meets its contract. Assumes nothing.
 use borrow.Author.Needs.{needs}
-use mathlib.Core.Path.{_≡_, ap, _∙_}
 use native.Mathlib.Omega.{arith}
-use Rattle.gensets.specs.Burned.{perHour}
 use Rattle.steady.proofs.CurveRead.{within-table, rate-read}
 use Rattle.steady.proofs.curve_table.burned_at.Statement.{statement}
 use Rattle.steady.proofs.curve_table.burned_at.Tie as tie

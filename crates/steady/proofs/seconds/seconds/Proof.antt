@@ -6,7 +6,7 @@ use denote.Ref.{now}
 use lib.ListN.{length, take}
 use lib.Seq.{length-take-le}
 use Rattle.dispatch.proofs.Each.{each-length}
-use Rattle.dispatch.proofs.Came.{asked-in, places-in, all-admits, all-worked}
+use Rattle.dispatch.proofs.WorkedSeconds.{asked-in, places-in, all-admits, all-worked}
 use borrow.Author.Needs.{needs}
 use Rattle.steady.proofs.seconds.seconds.Statement.{statement}
 use Rattle.steady.proofs.seconds.seconds.Tie as tie

@@ -16,7 +16,7 @@ use Rattle.dispatch.proofs.Admitting.{rest-of}
 use Rattle.dispatch.proofs.Each.{each-drop, each-length}
 use Rattle.dispatch.proofs.Ready.{rated}
 use Rattle.dispatch.proofs.Working.{works-start, works-length, works-on, first-admitted, back-is}
-use Rattle.steady.specs.SteadySecond.{Workable, GoesOn}
+use Rattle.steady.specs.SteadySecond.{Workable}
 use Rattle.steady.proofs.seconds.work_seconds.Statement.{statement}
 use Rattle.steady.proofs.seconds.work_seconds.Tie as tie
 

@@ -1,6 +1,5 @@
 -- `steady::steady_seconds::steady_seconds` meets its contract. Assumes nothing.
-use Prim.Native.Nat.{ℕ, _≤_, _<_}
-use mathlib.Core.Path.{_≡_, refl, sym, ap, _∙_, subst}
+use mathlib.Core.Path.{_≡_, sym, _∙_, subst}
 use mathlib.Core.Bool.{true}
 use mathlib.Core.List.{List}
 use native.Mathlib.Omega.{arith}
@@ -16,7 +15,6 @@ use Rattle.dispatch.specs.Parts.{runOf}
 use Rattle.dispatch.specs.Working.{Admits, Works}
 use Rattle.dispatch.proofs.Ruled.{all-commanded}
 use Rattle.dispatch.proofs.Working.{first-admitted}
-use Rattle.steady.specs.NextEvent.{longest}
 use Rattle.steady.specs.Steady.{sinceSteady}
 use Rattle.steady.specs.SteadySecond.{commandedSince}
 use Rattle.steady.proofs.Fillable.{fillable}

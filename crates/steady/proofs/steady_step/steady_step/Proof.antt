@@ -1,7 +1,6 @@
 -- `steady::steady_step::steady_step` meets its contract. Assumes nothing.
-use mathlib.Core.Path.{_≡_}
 use denote.Ref.{now}
-use lib.ListN.{length, length-map}
+use lib.ListN.{length-map}
 use Rattle.rules.proofs.Shapes.{Tables}
 use Rattle.steady.proofs.SteadySteps.{addable, steady-stepped}
 use borrow.Author.Needs.{needs}

@@ -1,10 +1,10 @@
 -- `steady::stretch::one_second` meets its contract. Assumes nothing.
-use Prim.Native.Nat.{ℕ, _≤_}
+use Prim.Native.Nat.{ℕ}
 use mathlib.Core.Path.{_≡_, sym, ap, _∙_, subst}
 use mathlib.Core.List.{List, _∷_}
 use native.Mathlib.Omega.{arith}
 use denote.Ref.{now}
-use lib.ListN.{length, drop, length-map}
+use lib.ListN.{drop, length-map}
 use Rattle.rules.specs.declared.run.Inputs.{Inputs}
 use Rattle.rules.specs.declared.run.Run.{Run}
 use Rattle.rules.specs.declared.run.Step.{Step}
@@ -16,7 +16,7 @@ use Rattle.dispatch.specs.Parts.{runOf}
 use Rattle.dispatch.specs.Steps.{SteppedBy}
 use Rattle.dispatch.specs.Working.{firstInputs, Admits, Works}
 use Rattle.dispatch.proofs.Each.{each-length, first-each}
-use Rattle.dispatch.proofs.Ruled.{stepOf, stepped-is}
+use Rattle.dispatch.proofs.Ruled.{stepped-is}
 use Rattle.dispatch.proofs.Working.{next-admitted, works-one}
 use borrow.Author.Needs.{needs}
 use Rattle.steady.proofs.stretch.one_second.Statement.{statement}

@@ -8,10 +8,6 @@ use Rattle.rules.specs.Bytes.{little}
 use Rattle.words.proofs.LittleLaws.{read-none, read-turn, below-turn, below-next, below-most}
 use Rattle.words.proofs.little.little.Statement.{statement}
 use Rattle.words.proofs.little.little.Tie as tie
-use Rattle.words.proofs.little.little.Reads as reads
-use Rattle.words.proofs.little.little.Lts as lts
-use Rattle.words.proofs.arithmetic.lesser.Reads as lesser-reads
-use Rattle.words.proofs.arithmetic.byte_u64.Reads as byte-u64-reads
 
 abbrev Inv-loop : tie.InvT-loop
 Inv-loop part at₀ number₀ at number = (at ≤ at₀) × (at₀ ≡ min 8 (length part)) × (number ≡ little (8 - at) (drop at part)) × (number < 256 ^ (at₀ - at))

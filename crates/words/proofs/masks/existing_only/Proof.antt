@@ -3,18 +3,13 @@ use Rattle.words.proofs.MaskTests.{none-above, all-there}
 use borrow.Author.Needs.{needs}
 use Rattle.words.proofs.masks.existing_only.Statement.{statement}
 use Rattle.words.proofs.masks.existing_only.Tie as tie
-use Rattle.words.proofs.masks.existing_only.Reads as reads
-use Rattle.words.proofs.masks.existing_only.Lts as lts
 
--- src/masks.rt:10:9
 returns : tie.Need-returns
 returns c = all-there (c .before .args .setcount) (c .before .args .mask) (search needs) (search needs)
 
--- src/masks.rt:12:5
 shr-result : tie.Need-shr-result
 shr-result c = search needs
 
--- src/masks.rt:6:1
 returns-2 : tie.Need-returns-2
 returns-2 c = none-above (c .before .args .setcount) (c .before .args .mask)
 

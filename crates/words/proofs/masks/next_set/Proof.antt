@@ -5,8 +5,6 @@ use Rattle.words.proofs.Zeros.{zeros-fit}
 use Rattle.words.proofs.Walk.{next-past, next-none, next-some}
 use Rattle.words.proofs.masks.next_set.Statement.{statement}
 use Rattle.words.proofs.masks.next_set.Tie as tie
-use Rattle.words.proofs.masks.next_set.Reads as reads
-use Rattle.words.proofs.masks.next_set.Lts as lts
 
 returns : tie.Need-returns
 returns c = next-past (c .before .args .mask) (c .before .args .from) (search needs)

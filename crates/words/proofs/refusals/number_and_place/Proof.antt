@@ -3,214 +3,160 @@ use mathlib.Core.Path.{refl}
 use borrow.Author.Needs.{needs}
 use Rattle.words.proofs.refusals.number_and_place.Statement.{statement}
 use Rattle.words.proofs.refusals.number_and_place.Tie as tie
-use Rattle.words.proofs.refusals.number_and_place.Reads as reads
-use Rattle.words.proofs.refusals.number_and_place.Lts as lts
 
--- src/refusals.rt:12:33
 enum-told : tie.Need-enum-told
 enum-told c = search needs
 
--- src/refusals.rt:13:32
 enum-known-refusal : tie.Need-enum-known-refusal
 enum-known-refusal c = search needs
 
--- src/refusals.rt:13:60
 cast-t18 : tie.Need-cast-t18
 cast-t18 c = search needs
 
--- src/refusals.rt:14:34
 enum-told-2 : tie.Need-enum-told-2
 enum-told-2 c = search needs
 
--- src/refusals.rt:15:34
 enum-told-3 : tie.Need-enum-told-3
 enum-told-3 c = search needs
 
--- src/refusals.rt:16:34
 enum-told-4 : tie.Need-enum-told-4
 enum-told-4 c = search needs
 
--- src/refusals.rt:17:28
 enum-known-refusal-2 : tie.Need-enum-known-refusal-2
 enum-known-refusal-2 c = search needs
 
--- src/refusals.rt:17:54
 cast-t19 : tie.Need-cast-t19
 cast-t19 c = search needs
 
--- src/refusals.rt:18:27
 enum-known-refusal-3 : tie.Need-enum-known-refusal-3
 enum-known-refusal-3 c = search needs
 
--- src/refusals.rt:18:53
 cast-t20 : tie.Need-cast-t20
 cast-t20 c = search needs
 
--- src/refusals.rt:19:36
 enum-known-refusal-4 : tie.Need-enum-known-refusal-4
 enum-known-refusal-4 c = search needs
 
--- src/refusals.rt:19:72
 cast-t21 : tie.Need-cast-t21
 cast-t21 c = search needs
 
--- src/refusals.rt:20:29
 enum-known-refusal-5 : tie.Need-enum-known-refusal-5
 enum-known-refusal-5 c = search needs
 
--- src/refusals.rt:21:31
 enum-known-refusal-6 : tie.Need-enum-known-refusal-6
 enum-known-refusal-6 c = search needs
 
--- src/refusals.rt:22:33
 enum-known-refusal-7 : tie.Need-enum-known-refusal-7
 enum-known-refusal-7 c = search needs
 
--- src/refusals.rt:23:31
 enum-known-refusal-8 : tie.Need-enum-known-refusal-8
 enum-known-refusal-8 c = search needs
 
--- src/refusals.rt:24:33
 enum-known-refusal-9 : tie.Need-enum-known-refusal-9
 enum-known-refusal-9 c = search needs
 
--- src/refusals.rt:25:31
 enum-known-refusal-10 : tie.Need-enum-known-refusal-10
 enum-known-refusal-10 c = search needs
 
--- src/refusals.rt:26:28
 enum-known-refusal-11 : tie.Need-enum-known-refusal-11
 enum-known-refusal-11 c = search needs
 
--- src/refusals.rt:27:28
 enum-known-refusal-12 : tie.Need-enum-known-refusal-12
 enum-known-refusal-12 c = search needs
 
--- src/refusals.rt:28:28
 enum-known-refusal-13 : tie.Need-enum-known-refusal-13
 enum-known-refusal-13 c = search needs
 
--- src/refusals.rt:29:37
 enum-known-refusal-14 : tie.Need-enum-known-refusal-14
 enum-known-refusal-14 c = search needs
 
--- src/refusals.rt:30:28
 enum-known-refusal-15 : tie.Need-enum-known-refusal-15
 enum-known-refusal-15 c = search needs
 
--- src/refusals.rt:31:27
 enum-told-5 : tie.Need-enum-told-5
 enum-told-5 c = search needs
 
--- src/refusals.rt:32:30
 enum-told-6 : tie.Need-enum-told-6
 enum-told-6 c = search needs
 
--- src/refusals.rt:33:31
 enum-told-7 : tie.Need-enum-told-7
 enum-told-7 c = search needs
 
--- src/refusals.rt:34:35
 enum-told-8 : tie.Need-enum-told-8
 enum-told-8 c = search needs
 
--- src/refusals.rt:35:31
 enum-told-9 : tie.Need-enum-told-9
 enum-told-9 c = search needs
 
--- src/refusals.rt:8:1
 returns : tie.Need-returns
 returns c = rw (c .enum-told .given .1) (refl, refl)
 
--- src/refusals.rt:8:1
 returns-2 : tie.Need-returns-2
 returns-2 c = rw (c .before .refusal .given .1) (refl, refl)
 
--- src/refusals.rt:8:1
 returns-3 : tie.Need-returns-3
 returns-3 c = rw (c .enum-told2 .given .1) (refl, refl)
 
--- src/refusals.rt:8:1
 returns-4 : tie.Need-returns-4
 returns-4 c = rw (c .enum-told3 .given .1) (refl, refl)
 
--- src/refusals.rt:8:1
 returns-5 : tie.Need-returns-5
 returns-5 c = rw (c .enum-told4 .given .1) (refl, refl)
 
--- src/refusals.rt:8:1
 returns-6 : tie.Need-returns-6
 returns-6 c = rw (c .before .refusal2 .given .1) (refl, refl)
 
--- src/refusals.rt:8:1
 returns-7 : tie.Need-returns-7
 returns-7 c = rw (c .before .refusal3 .given .1) (refl, refl)
 
--- src/refusals.rt:8:1
 returns-8 : tie.Need-returns-8
 returns-8 c = rw (c .before .refusal4 .given .1) (refl, refl)
 
--- src/refusals.rt:8:1
 returns-9 : tie.Need-returns-9
 returns-9 c = rw (c .before .refusal5 .given .1) (refl, refl)
 
--- src/refusals.rt:8:1
 returns-10 : tie.Need-returns-10
 returns-10 c = rw (c .before .refusal6 .given .1) (refl, refl)
 
--- src/refusals.rt:8:1
 returns-11 : tie.Need-returns-11
 returns-11 c = rw (c .before .refusal7 .given .1) (refl, refl)
 
--- src/refusals.rt:8:1
 returns-12 : tie.Need-returns-12
 returns-12 c = rw (c .before .refusal8 .given .1) (refl, refl)
 
--- src/refusals.rt:8:1
 returns-13 : tie.Need-returns-13
 returns-13 c = rw (c .before .refusal9 .given .1) (refl, refl)
 
--- src/refusals.rt:8:1
 returns-14 : tie.Need-returns-14
 returns-14 c = rw (c .before .refusal10 .given .1) (refl, refl)
 
--- src/refusals.rt:8:1
 returns-15 : tie.Need-returns-15
 returns-15 c = rw (c .before .refusal11 .given .1) (refl, refl)
 
--- src/refusals.rt:8:1
 returns-16 : tie.Need-returns-16
 returns-16 c = rw (c .before .refusal12 .given .1) (refl, refl)
 
--- src/refusals.rt:8:1
 returns-17 : tie.Need-returns-17
 returns-17 c = rw (c .before .refusal13 .given .1) (refl, refl)
 
--- src/refusals.rt:8:1
 returns-18 : tie.Need-returns-18
 returns-18 c = rw (c .before .refusal14 .given .1) (refl, refl)
 
--- src/refusals.rt:8:1
 returns-19 : tie.Need-returns-19
 returns-19 c = rw (c .before .refusal15 .given .1) (refl, refl)
 
--- src/refusals.rt:8:1
 returns-20 : tie.Need-returns-20
 returns-20 c = rw (c .enum-told5 .given .1) (refl, refl)
 
--- src/refusals.rt:8:1
 returns-21 : tie.Need-returns-21
 returns-21 c = rw (c .enum-told6 .given .1) (refl, refl)
 
--- src/refusals.rt:8:1
 returns-22 : tie.Need-returns-22
 returns-22 c = rw (c .enum-told7 .given .1) (refl, refl)
 
--- src/refusals.rt:8:1
 returns-23 : tie.Need-returns-23
 returns-23 c = rw (c .enum-told8 .given .1) (refl, refl)
 
--- src/refusals.rt:8:1
 returns-24 : tie.Need-returns-24
 returns-24 c = rw (c .enum-told9 .given .1) (refl, refl)
 
