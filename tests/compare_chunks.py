@@ -1,5 +1,5 @@
 #!/usr/bin/env python3
-"""compare_chunks.py REFERENCE GENERATE SEED COUNT
+"""compare_chunks.py REFERENCE GENERATE SEEDS COUNT
 
 Tests the streamed reader of sample files at chunks of many sizes, through target/staticlib/libtest_chunks.a (`rt staticlib test_chunks` writes
 it) and tests/chunked/chunked.h: first files with known answers, some of them at every size up to their own, then COUNT generated
@@ -12,6 +12,7 @@ import collections, os, sys
 
 sys.dont_write_bytecode = True  # no folder of compiled modules among the sources
 from c_drivers import C11, fail, must, sanitizers
+from generated_cases import generated
 
 ROOT = os.path.dirname(os.path.dirname(os.path.abspath(__file__)))
 LIBRARY = os.path.join('target', 'staticlib', 'libtest_chunks.a')
@@ -209,26 +210,25 @@ def main():
     if len(sys.argv) != 5 or not sys.argv[4].isdecimal():
         sys.exit(__doc__)
     reference, generate = map(os.path.abspath, sys.argv[1:3])
-    seed, count = sys.argv[3], int(sys.argv[4])
+    seeds, count = sys.argv[3], int(sys.argv[4])
     os.chdir(ROOT)
     if not os.path.exists(LIBRARY):
         fail('%s is not there; `rt staticlib test_chunks` writes it' % LIBRARY)
     os.makedirs(OUT, exist_ok=True)
     must(C11 + ['-Itests/sizing'] + sanitizers(OUT) + SOURCES + [LIBRARY, '-o', CASES])
     hold_known(reference)
-    cases = must([generate, 'sheets', seed, str(count)])
+    commands, files = zip(*generated(generate, 'sheets', seeds, count))
+    cases = ''.join(file + '\n' for file in files).encode()
     theirs = must([reference, 'batch', 'sheets'], input=cases).decode().splitlines()
     ours = streamed(cases, SIZES)
-    files = cases.decode().splitlines()
-    if not len(files) == len(ours) == len(theirs) == count:
-        fail('%d files, %d answers of the reader and %d of the reference, of %d asked for' % (len(files), len(ours), len(theirs), count))
+    if not len(files) == len(ours) == len(theirs):
+        fail('%d files, %d answers of the reader and %d of the reference' % (len(files), len(ours), len(theirs)))
     met, seen, rows, size = collections.Counter(), collections.Counter(), collections.Counter(), 0
     for at, (text, lines, answer) in enumerate(zip(files, ours, theirs), 1):
         file = b'' if text == '-' else bytes.fromhex(text)
-        command = '%s sheets %s %d | tail -1' % (generate, seed, at)
         found = 'accepted' if answer.startswith('accepted') else int(answer.split(',')[1])
         met[found] += 1
-        rows[found] += hold('case %d (%s)' % (at, command), SIZES, lines, answer, len(file))
+        rows[found] += hold('case %d (%s)' % (at, commands[at - 1]), SIZES, lines, answer, len(file))
         size += len(file)
         seen.update(kinds(file))
     names = ['accepted'] + NUMBERS
@@ -246,7 +246,7 @@ def main():
         if rows[name] == 0:
             fail('no row was compared of a file that is answered %s' % name)
     print('chunks: %d files of %d bytes, each answered at %d sizes as the reference answers it; at each size %d rows of accepted files and '
-          '%d rows of refused ones pulled' % (count, size, len(SIZES), rows['accepted'], sum(rows[name] for name in NUMBERS)))
+          '%d rows of refused ones pulled' % (len(files), size, len(SIZES), rows['accepted'], sum(rows[name] for name in NUMBERS)))
 
 
 main()

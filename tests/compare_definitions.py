@@ -1,5 +1,5 @@
 #!/usr/bin/env python3
-"""compare_definitions.py REFERENCE GENERATE SEED STATIONS SAMPLES RUNS SECONDS
+"""compare_definitions.py REFERENCE GENERATE SEEDS STATIONS SAMPLES RUNS SECONDS
 
 Holds the definitions of crates/rules against the independent reference program, on generated cases. A definition has no program:
 the proof checker computes it. So each case becomes an equation, "what the definition gives is what the reference answered", in a
@@ -7,6 +7,9 @@ crate of a repository made for the purpose in a temporary folder, and `rt check`
 with the command that shows its case; KEEP=1 in the environment keeps the folder.
 """
 import os, re, shutil, subprocess, sys, tempfile
+
+sys.dont_write_bytecode = True  # no folder of compiled modules among the sources
+from generated_cases import generated
 
 ROOT = os.path.dirname(os.path.dirname(os.path.abspath(__file__)))
 SPECS = os.path.join(ROOT, 'crates', 'rules', 'specs')
@@ -219,16 +222,16 @@ def shorten(case):
     return ' '.join([st, sm, sec])
 
 
-def answered(reference, generate, kind, seed, count):
-    """The generated cases of a kind, each with the reference's answer."""
-    cases = subprocess.run([generate, kind, seed, str(count)], check=True, stdout=subprocess.PIPE, text=True).stdout.splitlines()
+def answered(reference, generate, kind, seeds, count):
+    """The generated cases of a kind, each with the reference's answer and the command that shows it."""
+    commands, cases = zip(*generated(generate, kind, seeds, count))
     if kind == 'runs':
         cases = [shorten(c) for c in cases]
     asked = ''.join(c + '\n' for c in cases)
     answers = subprocess.run([reference, 'batch', kind], check=True, input=asked, stdout=subprocess.PIPE, text=True).stdout.splitlines()
-    if not len(cases) == len(answers) == count:
-        sys.exit('%s: %d cases and %d answers, of %d asked for' % (kind, len(cases), len(answers), count))
-    return list(zip(cases, answers))
+    if len(cases) != len(answers):
+        sys.exit('%s: %d cases and %d answers' % (kind, len(cases), len(answers)))
+    return list(zip(cases, answers, commands))
 
 
 def put(top, path, text):
@@ -251,7 +254,7 @@ def write_repository(top, cases):
         for at in range(0, len(cases[kind]), size):
             blocks.append('%s%d' % (kind.capitalize(), at))
             text = header
-            for i, (case, answer) in enumerate(cases[kind][at:at + size], at):
+            for i, (case, answer, _) in enumerate(cases[kind][at:at + size], at):
                 gives, shows = term(case, answer)
                 text += EQUATION % {'i': i, 'gives': gives, 'shows': shows, 'names': ' '.join(names)}
             put(top, 'crates/compared/specs/%s.antt' % blocks[-1], text)
@@ -266,9 +269,9 @@ def refused(output):
 def main():
     if len(sys.argv) != 8:
         sys.exit(__doc__)
-    reference, generate, seed = sys.argv[1:4]
+    reference, generate, seeds = sys.argv[1:4]
     counts = dict(zip(KINDS, map(int, sys.argv[4:8])))
-    cases = {k: answered(reference, generate, k, seed, n) if n else [] for k, n in counts.items()}
+    cases = {k: answered(reference, generate, k, seeds, n) if n else [] for k, n in counts.items()}
     top = tempfile.mkdtemp(prefix='definitions-')
     try:
         write_repository(top, cases)
@@ -280,11 +283,12 @@ def main():
             shutil.rmtree(top, ignore_errors=True)
     if got.returncode != 0:
         for kind, i, why in refused(got.stdout):
-            print('not as the reference answers: generate %s %s %d | tail -1   (%s)' % (kind.lower(), seed, int(i) + 1, why))
+            print('not as the reference answers: %s   (%s)' % (cases[kind.lower()][int(i)][2], why))
         if not refused(got.stdout):
             print(got.stdout[:4000])
         sys.exit(1)
-    print('definitions: %d cases as the reference answers them (%s)' % (sum(counts.values()), ', '.join('%d %s' % (n, k) for k, n in counts.items())))
+    met = {kind: len(of_kind) for kind, of_kind in cases.items()}
+    print('definitions: %d cases as the reference answers them (%s)' % (sum(met.values()), ', '.join('%d %s' % (n, k) for k, n in met.items())))
 
 
 main()

@@ -1,5 +1,5 @@
 #!/usr/bin/env python3
-"""compare_runs.py REFERENCE GENERATE RUN SMALL SEED COUNT
+"""compare_runs.py REFERENCE GENERATE RUN SMALL SEEDS COUNT
 
 Runs the program RUN (target/bin/run_files, which `rt check run_files` builds) as a process on real files and compares what it prints
 byte for byte with what the independent reference program prints: first cases with known answers, then COUNT generated runs and a third
@@ -16,6 +16,7 @@ import collections, os, re, shlex, shutil, signal, subprocess, sys
 
 sys.dont_write_bytecode = True  # no folder of compiled modules among the sources
 from c_drivers import fail, must
+from generated_cases import generated
 from speed_files import HEADINGS as HEADING_LINE, STATION_A, day_powers, days_sheet, four_sets, largest_station, row, scattered, sheet
 
 ROOT = os.path.dirname(os.path.dirname(os.path.abspath(__file__)))
@@ -122,24 +123,24 @@ def as_argument(seconds, at):
     return seconds if int(seconds) <= MOST_SECONDS else b'%d' % MOST_SECONDS
 
 
-def generated_runs(generate, seed, count):
-    for at, line in enumerate(must([generate, 'runs', seed, str(count)]).decode().splitlines()):
+def generated_runs(generate, seeds, count):
+    for at, (command, line) in enumerate(generated(generate, 'runs', seeds, count)):
         station, samples, seconds = map(from_hex, line.split(' '))
-        yield Case('%s runs %s %d | tail -1' % (generate, seed, at + 1), station, samples, as_argument(seconds, at))
+        yield Case(command, station, samples, as_argument(seconds, at))
 
 
-def generated_sheets(generate, seed, count, good):
+def generated_sheets(generate, seeds, count, good):
     """Sheets of all sizes, each with a station that is in order, and a few seconds of them or some hundreds."""
-    for at, line in enumerate(must([generate, 'sheets', seed, str(count)]).decode().splitlines()):
+    for at, (command, line) in enumerate(generated(generate, 'sheets', seeds, count)):
         seconds = [b'0', b'1', b'12', b'60', b'333', b'1500'][at % 6]
-        yield Case('%s sheets %s %d | tail -1' % (generate, seed, at + 1), good[at % len(good)].station, from_hex(line), seconds)
+        yield Case(command, good[at % len(good)].station, from_hex(line), seconds)
 
 
-def generated_stations(generate, seed, count, good):
+def generated_stations(generate, seeds, count, good):
     """Stations of all kinds, half of them damaged, each with a sheet that is in order."""
-    for at, line in enumerate(must([generate, 'stations', seed, str(count)]).decode().splitlines()):
+    for at, (command, line) in enumerate(generated(generate, 'stations', seeds, count)):
         station = from_hex(line.split(' ')[0])
-        yield Case('%s stations %s %d | tail -1' % (generate, seed, at + 1), station, good[at % len(good)].samples, b'200')
+        yield Case(command, station, good[at % len(good)].samples, b'200')
 
 
 def irregular_sheet(seconds):
@@ -322,20 +323,20 @@ class Tally:
         print('runs: %d rows, %d bytes compared' % (self.rows, self.bytes))
 
 
-def compare_all(reference, generate, seed, count, tally):
+def compare_all(reference, generate, seeds, count, tally):
     known = known_cases()
     for (case, wanted), (_, theirs) in zip(known, answered(reference, [case for case, _ in known])):
         if theirs != wanted:
             fail('%s: the reference prints %r and not %r' % (case.name, theirs[:200], wanted[:200]))
         tally.hold(case, wanted, True)
     good = []
-    for at, (case, wanted) in enumerate(answered(reference, list(generated_runs(generate, seed, count)))):
+    for at, (case, wanted) in enumerate(answered(reference, list(generated_runs(generate, seeds, count)))):
         tally.hold(case, wanted, at % 10 == 0)
         if number_of(wanted) == 0 and len(good) < 500:
             good.append(case)
     if not good:
         fail('no generated run is accepted')
-    others = list(generated_sheets(generate, seed, count // 6, good)) + list(generated_stations(generate, seed, count // 6, good))
+    others = list(generated_sheets(generate, seeds, count // 6, good)) + list(generated_stations(generate, seeds, count // 6, good))
     for at, (case, wanted) in enumerate(answered(reference, others)):
         tally.hold(case, wanted, at % 10 == 0)
     for case, wanted in answered(reference, list(split_cases())):

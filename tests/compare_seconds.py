@@ -1,5 +1,5 @@
 #!/usr/bin/env python3
-"""compare_seconds.py REFERENCE GENERATE SEED COUNT
+"""compare_seconds.py REFERENCE GENERATE SEEDS COUNT
 
 Runs target/bin/test_second_cases (`rt check test_second_cases` builds it) on COUNT generated cases of one second, and compares each answer byte
 for byte with that of the independent reference program: the row's length or the refusal, the record handed back, the row. The program
@@ -10,6 +10,7 @@ import collections, os, sys
 
 sys.dont_write_bytecode = True  # no folder of compiled modules among the sources
 from c_drivers import fail, must
+from generated_cases import generated
 
 ROOT = os.path.dirname(os.path.dirname(os.path.abspath(__file__)))
 PROGRAM = os.path.join('target', 'bin', 'test_second_cases')
@@ -38,34 +39,34 @@ def what_was_met(case, answer):
     return ['accepted' if said.startswith('row,') else said] + held_kind(case)
 
 
-def hold(command, cases, ours, theirs):
-    """Ends the test at the first case that is answered otherwise; `command` makes the case of a number."""
-    if not len(cases) == len(ours) == len(theirs):
-        fail('%d cases, %d answers, %d of the reference' % (len(cases), len(ours), len(theirs)))
+def hold(commands, ours, theirs):
+    """Ends the test at the first case that is answered otherwise; its command shows it."""
+    if not len(commands) == len(ours) == len(theirs):
+        fail('%d cases, %d answers, %d of the reference' % (len(commands), len(ours), len(theirs)))
     for at, (our, their) in enumerate(zip(ours, theirs), 1):
         if our != their:
-            fail('case %d (%s) is answered\n%s\nand not\n%s' % (at, command % at, our, their))
+            fail('case %d (%s) is answered\n%s\nand not\n%s' % (at, commands[at - 1], our, their))
 
 
 def main():
     if len(sys.argv) != 5 or not sys.argv[4].isdecimal():
         sys.exit(__doc__)
     reference, generate = map(os.path.abspath, sys.argv[1:3])
-    seed, count = sys.argv[3], int(sys.argv[4])
+    seeds, count = sys.argv[3], int(sys.argv[4])
     os.chdir(ROOT)
     if not os.path.exists(PROGRAM):
         fail('%s is not there; `rt check test_second_cases` builds it' % PROGRAM)
-    text = must([generate, 'seconds', seed, str(count)])
-    cases = text.decode().splitlines()
+    commands, cases = zip(*generated(generate, 'seconds', seeds, count))
+    text = ''.join(case + '\n' for case in cases).encode()
     theirs = must([reference, 'batch', 'seconds'], input=text).decode().splitlines()
     ours = must([PROGRAM], input=text).decode().splitlines()
-    hold('%s seconds %s %%d | tail -1' % (generate, seed), cases, ours, theirs)
+    hold(commands, ours, theirs)
     met = collections.Counter(kind for case, answer in zip(cases, theirs) for kind in what_was_met(case, answer))
     print('seconds: ' + ', '.join('%s: %d' % (kind, met[kind]) for kind in KINDS))
     for kind in KINDS:
         if met[kind] == 0:
             fail('no case with %s' % kind)
-    print('seconds: %d cases, each answered as the reference answers it' % count)
+    print('seconds: %d cases, each answered as the reference answers it' % len(cases))
 
 
 main()

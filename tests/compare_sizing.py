@@ -1,5 +1,5 @@
 #!/usr/bin/env python3
-"""compare_sizing.py REFERENCE GENERATE SEED COUNT COUNT2
+"""compare_sizing.py REFERENCE GENERATE SEEDS COUNT COUNT2
 
 Tests the C library of the sizing screen, target/staticlib/libsizing.a (`rt staticlib sizing` writes it), through include/sizing.h: the
 header as C and as C++, the worked example, the known answers, and then COUNT generated stations with a question each and COUNT2
@@ -10,6 +10,7 @@ import collections, os, shutil, sys
 
 sys.dont_write_bytecode = True  # no folder of compiled modules among the sources
 from c_drivers import C11, CC, WARNINGS, fail, must, run, sanitizers
+from generated_cases import generated
 
 ROOT = os.path.dirname(os.path.dirname(os.path.abspath(__file__)))
 LIBRARY = os.path.join('target', 'staticlib', 'libsizing.a')
@@ -68,17 +69,16 @@ def kind(answer):
     return int(number), place != '0'
 
 
-def compare(reference, batch, generator, count):
+def compare(reference, batch, found):
     """The answers to the generated cases of a batch, of which the library's and the reference's are the same."""
-    cases = must(generator + [str(count)])
+    cases = ''.join(case + '\n' for _, case in found).encode()
     ours = must([os.path.join(OUT, 'sizing_cases'), batch], input=cases).decode().splitlines()
     theirs = must([reference, 'batch', batch], input=cases).decode().splitlines()
     for at, (one, other) in enumerate(zip(ours, theirs), 1):
         if one != other:
-            shown = ' '.join(generator + [str(at)])
-            fail('case %d of %s: the library answers %s and the reference %s\n%s | tail -1' % (at, batch, one, other, shown))
-    if not len(ours) == len(theirs) == count:
-        fail('%d answers of the library and %d of the reference, of %d asked for' % (len(ours), len(theirs), count))
+            fail('case %d of %s: the library answers %s and the reference %s\n%s' % (at, batch, one, other, found[at - 1][0]))
+    if not len(ours) == len(theirs) == len(found):
+        fail('%d answers of the library and %d of the reference, of %d asked for' % (len(ours), len(theirs), len(found)))
     return ours
 
 
@@ -112,10 +112,10 @@ def main():
     build()
     try_example()
     print('sizing: ' + must([os.path.join(OUT, 'sizing_known'), STATION_A]).decode().strip())
-    seed, stations, samples = sys.argv[3], int(sys.argv[4]), int(sys.argv[5])
-    show(compare(reference, 'stations', [generate, 'stations', seed], stations), CALLS, COLUMNS)
+    seeds, stations, samples = sys.argv[3], int(sys.argv[4]), int(sys.argv[5])
+    show(compare(reference, 'stations', generated(generate, 'stations', seeds, stations)), CALLS, COLUMNS)
     # The generator's sheets are sample files of all sizes, small ones and some of more than 65,536 bytes.
-    show(compare(reference, 'samples', [generate, 'sheets', seed], samples), SAMPLE_CALLS, SAMPLE_COLUMNS)
+    show(compare(reference, 'samples', generated(generate, 'sheets', seeds, samples)), SAMPLE_CALLS, SAMPLE_COLUMNS)
 
 
 main()

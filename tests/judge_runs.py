@@ -1,5 +1,5 @@
 #!/usr/bin/env python3
-"""judge_runs.py REFERENCE GENERATE RUN SEED COUNT
+"""judge_runs.py REFERENCE GENERATE RUN SEEDS COUNT
 
 Judges demand 3 from a second side. The program RUN (target/bin/run_files, which `rt check run_files` builds; it may be a command of
 several words) runs as a process on real files: COUNT generated runs, of which some are damaged and refused; half as many good ones with
@@ -16,6 +16,7 @@ import collections, os, shlex, shutil, subprocess, sys
 
 sys.dont_write_bytecode = True  # no folder of compiled modules among the sources
 from c_drivers import fail, must
+from generated_cases import generated
 from speed_files import STATION_A, days_sheet, four_sets, largest_station, sheet
 
 ROOT = os.path.dirname(os.path.dirname(os.path.abspath(__file__)))
@@ -50,11 +51,11 @@ def put(path, content):
 
 # ---- cases
 
-def generated(generate, kind, seed, count):
-    for at, line in enumerate(must([generate, kind, seed, str(count)]).decode().splitlines()):
+def generated_runs(generate, kind, seeds, count):
+    for command, line in generated(generate, kind, seeds, count):
         station, samples, seconds = map(from_hex, line.split(' '))
         seconds = seconds.replace(b'\0', b'\1')  # no argument of a process holds a NUL
-        yield Case('%s %s %s %d | tail -1' % (generate, kind, seed, at + 1), station, samples, seconds)
+        yield Case(command, station, samples, seconds)
 
 
 def longer_cases():
@@ -103,7 +104,7 @@ class Tally:
     """Judges texts and their changes, and counts."""
 
     def __init__(self, reference, seed):
-        self.reference, self.seed = reference, int(seed)
+        self.reference, self.seed = reference, seed
         self.held = self.refused_runs = 0
         self.seen, self.tried = collections.Counter(), collections.Counter()
         self.by_clause, self.allowed = collections.Counter(), collections.Counter()
@@ -174,14 +175,14 @@ def main():
     reference, generate = map(os.path.abspath, sys.argv[1:3])
     words = shlex.split(sys.argv[3])
     run = [os.path.abspath(words[0])] + words[1:]
-    seed, count = sys.argv[4], int(sys.argv[5])
+    seeds, count = sys.argv[4], int(sys.argv[5])
     os.chdir(ROOT)
     if not os.access(run[0], os.X_OK):
         fail('%s is not there; `rt check %s` builds it' % (run[0], os.path.basename(run[0])))
     shutil.rmtree(OUT, ignore_errors=True)
     os.makedirs(OUT)
-    tally = Tally(reference, seed)
-    cases = [*generated(generate, 'runs', seed, count), *generated(generate, 'judged', seed, count // 2), *longer_cases()]
+    tally = Tally(reference, sum(map(int, seeds.split(','))))
+    cases = [*generated_runs(generate, 'runs', seeds, count), *generated_runs(generate, 'judged', seeds, count // 2), *longer_cases()]
     for case in cases:
         tally.add(case, printed_by(run, case))
     tally.judge()
