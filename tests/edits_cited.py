@@ -2,12 +2,11 @@
 """edits_cited.py: docs/STATEMENTS.md and the must-fail edits, held against each other.
 
 It fails where the page names an edit that is not kept (in italics, or behind the name of its crate), and where an edit is kept that the
-page does not name. Where README.md says how many edits each crate has, the numbers must be those.
+page does not name.
 """
 import collections, glob, os, re, sys
 
 ROOT = os.path.dirname(os.path.dirname(os.path.abspath(__file__)))
-COUNTED = 'are kept as edits that the check must refuse'
 
 
 def read(*parts):
@@ -24,35 +23,28 @@ def kept_edits():
     return kept
 
 
-def faults_of(page, readme, kept, crates, functions):
+def faults_of(page, kept, crates, functions):
     told = ['%s is told as kept, and is no edit' % name for name in sorted(set(re.findall(r'\*`(\w+)`\*', page))) if name not in kept]
     for crate, name in sorted(set(re.findall(r'`(\w+) ([a-z]\w*_\w+)`', page))):
         if crate in crates and crate not in kept[name] and name not in functions:
             told.append('%s is no edit of %s' % (name, crate))
     named = set(re.findall(r'`(?:\w+ )?(\w+)`', page))
     told += ['%s of %s is not named' % (name, crate) for name in sorted(kept) for crate in sorted(kept[name]) if name not in named]
-    sentence = readme[readme.index(COUNTED):].split('\n')[0]
-    counted = {crate: int(n) for n, crate in re.findall(r'(\d+) of (?:the )?`?(\w+)`?', sentence)}
-    there = collections.Counter(crate for crates_of in kept.values() for crate in crates_of)
-    if counted != dict(there):
-        told.append('README.md has the numbers %s, and there are %s' % (sorted(counted.items()), sorted(there.items())))
     return told
 
 
 def must_tell():
     """each kind of fault, on a page of its own"""
-    readme = 'Wrong programs %s: 1 of the rules and 2 of `words`.' % COUNTED
     kept = collections.defaultdict(set, a_b={'rules', 'words'}, c_d={'words'})
     page = '`a_b`, *`c_d`*, `words a_b`, `words some_call`'
     cases = [
-        (page, readme, 0),
-        (page + ' *`e_f`*', readme, 1),
-        (page + ' `rules c_d`', readme, 1),
-        (page.replace('c_d', 'a_b'), readme, 1),
-        (page, readme.replace('2', '3'), 1),
+        (page, 0),
+        (page + ' *`e_f`*', 1),
+        (page + ' `rules c_d`', 1),
+        (page.replace('c_d', 'a_b'), 1),
     ]
-    for text, counts, faults in cases:
-        told = faults_of(text, counts, kept, {'rules', 'words'}, {'some_call'})
+    for text, faults in cases:
+        told = faults_of(text, kept, {'rules', 'words'}, {'some_call'})
         if len(told) != faults:
             sys.exit('edits_cited.py: of its own case it tells %r' % told)
 
@@ -63,7 +55,7 @@ def main():
     functions = set()
     for path in glob.glob(os.path.join(ROOT, 'crates', '*', 'src', '**', '*.rt'), recursive=True):
         functions.update(re.findall(r'\bfn (\w+)\(', read(path)))
-    told = faults_of(read('docs', 'STATEMENTS.md'), read('README.md'), kept, crates, functions)
+    told = faults_of(read('docs', 'STATEMENTS.md'), kept, crates, functions)
     for fault in told:
         print('edits_cited.py: ' + fault, file=sys.stderr)
     if told:
