@@ -1,4 +1,4 @@
--- Laws of lines, stages and places, of the rows in force, and the theorems over every list of chunks.
+-- Laws of lines, stages and places, and the theorems over every list of chunks.
 pub mod UpToRefused
 pub mod LineLaws
 pub mod UsualNext
@@ -8,9 +8,4 @@ pub mod PlaceBound
 pub mod CheckLaws
 pub mod ChunkLaws
 pub mod Chunks
-pub mod HeldLaws
-pub mod EndLaws
-pub mod FillLaws
 pub mod UsualRows
-pub mod UsualSeconds
-pub mod RowsRight

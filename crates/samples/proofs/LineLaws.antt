@@ -23,7 +23,7 @@ use Rattle.samples.specs.declared.stage.Stage.{Stage}
 use Rattle.samples.specs.declared.stage.Found.{Found}
 use Rattle.samples.specs.ToCome.{mostPlace, placed, samplesOf, answerFrom, RowsRead, upToRefused, toCome, fileRows, rowFirst, answerOf, allRead, endOf}
 use Rattle.samples.specs.declared.reader.SampleReader.{SampleReader}
-use Rattle.samples.specs.Streamed.{begunWith, linesAfter, yetToCome, isRow}
+use Rattle.samples.specs.Streamed.{begunWith, linesAfter, begunIn, yetToCome, isRow}
 use Rattle.sheet.specs.declared.headings.Columns.{Columns}
 use Rattle.sheet.specs.Rows.{rowIn}
 use Rattle.sheet.specs.Usual.{UsualRight}
@@ -225,12 +225,13 @@ pub at-end-of : (s : List ℕ) (m : SampleReader) (rest : List ℕ) → yetToCom
 at-end-of s m rest = rw (drop-length s)
 
 pub kept-whole : (s : List ℕ) (next : ℕ) (m m′ : SampleReader) (rest : List ℕ) → indexOf LF (drop next s) ≡ length (drop next s)
-    → (indexOf LF (take (length s - next) (drop next s)) ≡ length (take (length s - next) (drop next s)) → (rest : List ℕ) → yetToCome m (take (length s - next) (drop next s) ++ rest) ≡ yetToCome m′ rest)
+    → ((rest : List ℕ) → yetToCome m′ rest ≡ toCome (m .stage) (linesAfter (begunIn m ++ take (length s - next) (drop next s)) rest))
     → yetToCome m (drop next s ++ rest) ≡ yetToCome m′ (drop (length s) s ++ rest)
+unfolding yetToCome
 kept-whole s next m m′ rest none keeps =
-    let e = take-rest s next in
-    let k = keeps (rw e none) rest in
-    ap (λ (l : List ℕ). yetToCome m (l ++ rest)) (sym e) ∙ k ∙ sym (at-end-of s m′ rest)
+    ap (toCome (m .stage)) (line-goes-on (begunIn m) (drop next s) rest none ∙ ap (λ (l : List ℕ). linesAfter (begunIn m ++ l) rest) (sym (take-rest s next)))
+    ∙ sym (keeps rest)
+    ∙ sym (at-end-of s m′ rest)
 
 -- the first LF from `next` on stands at `end`, which is the chunk's length where there is none
 module _ (chunk : List ℕ) (next end : ℕ) (first : end ≡ next + indexOf LF (slice next (length chunk) chunk)) where

@@ -1,5 +1,4 @@
--- What is still to come of a sample file, the file in chunks, and what each second is handed.
+-- What is still to come of a sample file, and the file in chunks.
 pub mod ToCome
 pub mod Streamed
 pub mod Chunks
-pub mod Held

@@ -177,7 +177,7 @@ pub fn finish(check: SampleCheck) -> Checked
 }
 
 // Whether the lines so far came to a refusal.
-pub(crate) fn line_refused(stage: Stage) -> bool
+pub fn line_refused(stage: Stage) -> bool
     ensures { λ r. ⌜ r ≡ isRefused stage ⌝ }
 {
     match stage {

@@ -1,6 +1,4 @@
-// The sample file, in chunks of any length: what its lines come to, its rows, its check, and what each second is handed.
+// The sample file, in chunks of any length: what its lines come to, its rows and its check.
 pub mod check;
-pub mod inputs;
 pub mod reader;
 pub mod stage;
-mod usual_seconds;

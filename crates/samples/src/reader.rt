@@ -5,11 +5,9 @@ ghost use mathlib.Core.Bool.{true};
 ghost use mathlib.Core.List.{List, [], _∷_, _++_};
 ghost use lib.ListN.{length, take};
 ghost use lib.Dec.{leb};
-ghost use Rattle.bytes.specs.Bytes.{indexOf};
-ghost use Rattle.rules.specs.Bytes.{LF};
 ghost use Rattle.rules.specs.Lines.{Line, ended as endedLine, withoutCR};
 ghost use Rattle.samples.specs.ToCome.{toCome, fileRows, rowFirst};
-ghost use Rattle.samples.specs.Streamed.{usualLater, textOf, yetToCome, isRow, LineRight, NextRight, PulledRight, endingOf};
+ghost use Rattle.samples.specs.Streamed.{linesAfter, begunIn, usualLater, textOf, yetToCome, isRow, LineRight, NextRight, PulledRight, endingOf};
 ghost use Rattle.rules.specs.Answers.{accepted};
 use crate::stage::Found;
 use crate::stage::Stage;
@@ -31,9 +29,9 @@ use words::arithmetic::lesser;
 
 // The bytes of the line that has begun, and what the lines before it came to.
 pub struct SampleReader {
-    pub(crate) line: [u8; 512],
-    pub(crate) len: usize,
-    pub(crate) stage: Stage,
+    pub line: [u8; 512],
+    pub len: usize,
+    pub stage: Stage,
 }
 
 // A row, or nothing where the chunk has no further one; the chunk is to be read on at `next`.
@@ -52,11 +50,11 @@ struct LineTurn {
 }
 
 // The next row of the lines that end in a chunk; the chunk is to be read on at `next`, where `len` bytes of a line have begun.
-pub(crate) struct NextRow {
-    pub(crate) stage: Stage,
-    pub(crate) len: usize,
-    pub(crate) next: usize,
-    pub(crate) found: Found,
+pub struct NextRow {
+    pub stage: Stage,
+    pub len: usize,
+    pub next: usize,
+    pub found: Found,
 }
 
 // What the end of the file gives: the row of a last line without LF, none, or the refusal.
@@ -151,9 +149,9 @@ fn joined_line(stage: Stage, line: &[u8; 512], len: usize, more: &[u8]) -> Turn
     whole_line(stage, &text[..end], true)
 }
 
-// A chunk's bytes after its last LF are kept, unless they make the line too long: then no byte of it is wanted any more.
-pub(crate) fn kept(reader: SampleReader, more: &[u8]) -> SampleReader
-    ensures { λ r. ⌜ (indexOf LF (now (more .entry)) ≡ length (now (more .entry)) → (rest : List ℕ) → yetToCome reader (now (more .entry) ++ rest) ≡ yetToCome r rest) ⌝ }
+// The line that has begun goes on with these bytes, a chunk's after its last LF; where it is too long, no byte of it is wanted any more.
+pub fn kept(reader: SampleReader, more: &[u8]) -> SampleReader
+    ensures { λ r. ⌜ ((rest : List ℕ) → yetToCome r rest ≡ toCome (reader .stage) (linesAfter (begunIn reader ++ now (more .entry)) rest)) ⌝ }
 {
     let stage = reader.stage;
     let line = reader.line;
@@ -236,13 +234,7 @@ fn line_at(stage: Stage, line: &[u8; 512], len: usize, chunk: &[u8], at: usize) 
 }
 
 // The next row out of the lines that end in the chunk, from a place on; the bytes of the line that has begun are left alone.
-pub(crate) fn next_row(
-    stage: Stage,
-    line: &[u8; 512],
-    len: usize,
-    chunk: &[u8],
-    at: usize,
-) -> NextRow
+pub fn next_row(stage: Stage, line: &[u8; 512], len: usize, chunk: &[u8], at: usize) -> NextRow
     ensures { λ r. ⌜ NextRight stage (now (line .entry)) len (now (chunk .entry)) at r ⌝ }
 {
     let mut latest = stage;
@@ -280,7 +272,7 @@ pub(crate) fn next_row(
 }
 
 // The row from a place of the chunk on, where it is a usual one that is later than the last.
-pub(crate) fn usual_later(columns: Columns, last: u32, chunk: &[u8], at: usize) -> Usual
+pub fn usual_later(columns: Columns, last: u32, chunk: &[u8], at: usize) -> Usual
     ensures { λ r. ⌜ usualLater columns last (now (chunk .entry)) at r ⌝ }
 {
     let usual = usual_row(columns, chunk, at);

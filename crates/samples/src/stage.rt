@@ -37,7 +37,7 @@ pub struct Turn {
 }
 
 // One line more, up to the greatest place that 64 bits hold.
-pub(crate) fn next_line(lines: u64) -> u64
+pub fn next_line(lines: u64) -> u64
     ensures { λ r. ⌜ r ≡ min (suc lines) mostPlace ⌝ }
 {
     if lines < u64::MAX { lines + 1 } else { lines }

@@ -7,7 +7,7 @@ use borrow.Author.Tests.{leb-false}
 use borrow.Author.Needs.{needs}
 use Rattle.samples.specs.ToCome.{toCome}
 use Rattle.samples.specs.Streamed.{linesAfter, yetToCome}
-use Rattle.samples.proofs.LineLaws.{line-goes-on, long-line}
+use Rattle.samples.proofs.LineLaws.{long-line}
 use Rattle.samples.proofs.reader.kept.Statement.{statement}
 use Rattle.samples.proofs.reader.kept.Tie as tie
 
@@ -18,9 +18,8 @@ returns : tie.Need-returns
 unfolding yetToCome
 returns c =
     let m = c .before .before .before .before .before .args .reader in
-    let s = c .before .before .before .before .before .args .more .now in
     let whole = c .before .before .extended-by .ensures .1 .0 (c .if1 .taken) in
-    λ none rest. ap (toCome (m .stage)) (line-goes-on (take (m .len) (m .line)) s rest none ∙ ap (λ (l : List ℕ). linesAfter l rest) (sym whole))
+    λ rest. ap (λ (l : List ℕ). toCome (m .stage) (linesAfter l rest)) whole
 
 too-long-requires : tie.Need-too-long-requires
 too-long-requires c κs = search needs
@@ -32,7 +31,7 @@ returns-2 c =
     let s = c .before .before .before .before .before .before .args .more .now in
     let begun = take (m .len) (m .line) in
     let over = leb-false _ 512 (sym (c .before .before .before .extended-by .ensures .0) ∙ c .before .if1 .left) in
-    λ none rest. ap (toCome (m .stage)) (line-goes-on begun s rest none) ∙ long-line (m .stage) _ (begun ++ s) rest _ (c .too-long .ensures) over
+    λ rest. sym (long-line (m .stage) _ (begun ++ s) rest _ (c .too-long .ensures) over)
 
 pub kept-spec : {M : Type 1} → statement M
 kept-spec = tie.close (tie.spec extended-by-requires returns too-long-requires returns-2)
