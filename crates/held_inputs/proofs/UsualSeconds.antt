@@ -18,7 +18,8 @@ use Rattle.held_inputs.specs.declared.inputs.InputSource.{InputSource}
 use Rattle.held_inputs.specs.declared.usual_seconds.FillState.{FillState}
 use Rattle.samples.specs.declared.stage.Found.{Found}
 use Rattle.samples.specs.ToCome.{mostPlace, RowsRead, rowFirst}
-use Rattle.samples.specs.Streamed.{yetToCome, UsualLater}
+use Rattle.usual_rows.specs.Usual.{UsualLater}
+use Rattle.samples.specs.Streamed.{yetToCome}
 use Rattle.held_inputs.specs.Held.{readerAt, sourceRows, inputsIn, ReachedRight, HeldOn, placesOf, fillStateAt, filledAt, Filling, GoesOn}
 use Rattle.held_inputs.proofs.HeldLaws.{latest-of, in-force, before-next, onward-same}
 use Rattle.held_inputs.proofs.FillLaws.{filling-more}

@@ -6,11 +6,11 @@ use crate::inputs::Ahead;
 use crate::inputs::Begun;
 use crate::inputs::InputSource;
 use rules::samples::Sample;
-use samples::reader::usual_later;
 use samples::stage::Stage;
 use samples::stage::next_line;
 use sheet::headings::Columns;
-use sheet::usual::Usual;
+use usual_rows::usual::Usual;
+use usual_rows::usual::usual_later;
 use words::arithmetic::wide;
 
 // So many seconds were told: the row in force and the rows after it; the chunk is to be read on at `next`.

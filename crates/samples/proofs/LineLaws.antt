@@ -26,7 +26,7 @@ use Rattle.samples.specs.declared.reader.SampleReader.{SampleReader}
 use Rattle.samples.specs.Streamed.{begunWith, linesAfter, begunIn, yetToCome, isRow}
 use Rattle.sheet.specs.declared.headings.Columns.{Columns}
 use Rattle.sheet.specs.Rows.{rowIn}
-use Rattle.sheet.specs.Usual.{UsualRight}
+use Rattle.usual_rows.specs.Usual.{UsualRight}
 use Rattle.rules.proofs.Checks.{not-accepted}
 use Rattle.sheet.proofs.PartsAt.{index-le, part-first}
 use Rattle.samples.proofs.UpToRefused.{answer-read}

@@ -13,7 +13,8 @@ use Rattle.sheet.specs.Rows.{rowIn}
 use Rattle.samples.specs.declared.stage.Stage.{Stage}
 use Rattle.samples.specs.declared.stage.Found.{Found}
 use Rattle.samples.specs.ToCome.{mostPlace, toCome, rowFirst}
-use Rattle.samples.specs.Streamed.{linesAfter, UsualLater}
+use Rattle.usual_rows.specs.Usual.{UsualLater}
+use Rattle.samples.specs.Streamed.{linesAfter}
 use Rattle.samples.proofs.StageLaws.{later-taken}
 use Rattle.samples.proofs.LineLaws.{usual-told}
 

@@ -10,7 +10,8 @@ use Rattle.samples.specs.declared.stage.Stage.{Stage}
 use Rattle.samples.specs.declared.stage.Found.{Found}
 use Rattle.samples.specs.declared.check.Span.{Span}
 use Rattle.samples.specs.ToCome.{mostPlace, toCome}
-use Rattle.samples.specs.Streamed.{linesAfter, UsualLater, spanned, CountedOn}
+use Rattle.usual_rows.specs.Usual.{UsualLater}
+use Rattle.samples.specs.Streamed.{linesAfter, spanned, CountedOn}
 use Rattle.samples.proofs.CheckLaws.{found-counted}
 use Rattle.samples.proofs.UsualNext.{usual-on}
 

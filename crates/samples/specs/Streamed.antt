@@ -11,9 +11,6 @@ use Rattle.rules.specs.Bytes.{LF, parts}
 use Rattle.rules.specs.Lines.{Line, withoutCR, linesOf}
 use Rattle.rules.specs.Answers.{Answer, accepted, refusalOf, _>>=_, _>>_}
 use Rattle.rules.specs.SampleFile.{sampleFile}
-use Rattle.sheet.specs.declared.headings.Columns.{Columns}
-use Rattle.sheet.specs.declared.usual.Usual.{Usual}
-use Rattle.sheet.specs.Usual.{UsualRight}
 use Rattle.samples.specs.declared.stage.Stage.{Stage}
 use Rattle.samples.specs.declared.stage.Found.{Found}
 use Rattle.samples.specs.declared.reader.SampleReader.{SampleReader}
@@ -63,15 +60,6 @@ pub record LineRight (stage : Stage) (begun chunk : List ℕ) (at : ℕ) (r : Li
   pub onward : r .ended ≡ true → at < r .next
   pub within : r .next ≤ length chunk
   pub further : r .ended ≡ false → indexOf LF (drop at chunk) ≡ length (drop at chunk)
-
--- the usual row from a place of a chunk on, later than the last
-pub record UsualLater (columns : Columns) (last : ℕ) (chunk : List ℕ) (at : ℕ) (x : Sample) (next : ℕ) : Type 0 where
-  pub later : last < x .at
-  pub right : UsualRight columns chunk at x next
-
-abbrev pub usualLater : Columns → ℕ → List ℕ → ℕ → Usual → Type 0
-usualLater columns last chunk at (Usual.Row x next) = UsualLater columns last chunk at x next
-usualLater columns last chunk at Usual.Other = Unit {0}
 
 -- what the next row of the lines that end in a chunk owes; what is left has no line that ends
 pub record NextRight (stage : Stage) (line : List ℕ) (len : ℕ) (chunk : List ℕ) (at : ℕ) (r : NextRow) : Type 0 where

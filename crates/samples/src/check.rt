@@ -11,13 +11,13 @@ use crate::reader::end;
 use crate::reader::kept;
 use crate::reader::next_row;
 use crate::reader::reader;
-use crate::reader::usual_later;
 use crate::stage::Found;
 use crate::stage::Stage;
 use crate::stage::next_line;
 use rules::answers::Refusal;
 use sheet::headings::Columns;
-use sheet::usual::Usual;
+use usual_rows::usual::Usual;
+use usual_rows::usual::usual_later;
 
 // How many rows were accepted, and the time of the last.
 pub struct Span {

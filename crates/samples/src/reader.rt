@@ -7,7 +7,7 @@ ghost use lib.ListN.{length, take};
 ghost use lib.Dec.{leb};
 ghost use Rattle.rules.specs.Lines.{Line, ended as endedLine, withoutCR};
 ghost use Rattle.samples.specs.ToCome.{toCome, fileRows, rowFirst};
-ghost use Rattle.samples.specs.Streamed.{linesAfter, begunIn, usualLater, textOf, yetToCome, isRow, LineRight, NextRight, PulledRight, endingOf};
+ghost use Rattle.samples.specs.Streamed.{linesAfter, begunIn, textOf, yetToCome, isRow, LineRight, NextRight, PulledRight, endingOf};
 ghost use Rattle.rules.specs.Answers.{accepted};
 use crate::stage::Found;
 use crate::stage::Stage;
@@ -23,8 +23,8 @@ use rules::limits::MOST_LINE;
 use rules::samples::Sample;
 use sheet::headings::Columns;
 use sheet::rows::RowRead;
-use sheet::usual::Usual;
-use sheet::usual::usual_row;
+use usual_rows::usual::Usual;
+use usual_rows::usual::usual_row;
 use words::arithmetic::lesser;
 
 // The bytes of the line that has begun, and what the lines before it came to.
@@ -269,20 +269,6 @@ pub fn next_row(stage: Stage, line: &[u8; 512], len: usize, chunk: &[u8], at: us
         next,
         found: Found::Nothing,
     }
-}
-
-// The row from a place of the chunk on, where it is a usual one that is later than the last.
-pub fn usual_later(columns: Columns, last: u32, chunk: &[u8], at: usize) -> Usual
-    ensures { λ r. ⌜ usualLater columns last (now (chunk .entry)) at r ⌝ }
-{
-    let usual = usual_row(columns, chunk, at);
-    let Usual::Row(sample, next) = usual else {
-        return Usual::Other;
-    };
-    if sample.at <= last {
-        return Usual::Other;
-    }
-    Usual::Row(sample, next)
 }
 
 // The next row out of the chunk, from a place on.

@@ -8,7 +8,3 @@ pub mod ColumnsRead
 pub mod HeadingLineLaws
 pub mod RowLaws
 pub mod RowCells
-pub mod Least
-pub mod LineEnd
-pub mod UsualLaws
-pub mod PowersLaws

@@ -3,4 +3,3 @@ pub mod Digits
 pub mod Cells
 pub mod Headings
 pub mod Rows
-pub mod Usual

@@ -28,7 +28,11 @@ rowIn columns line l = do
   values ← rowValues sampleSheet (columnsOf columns) line l
   accepted (sampleOf values)
 
--- the same of the values of its cells, in the file's order
+-- the values of its cells, in the file's order, each under its heading
+unfoldable pub sampleUnder : Columns → List ℕ → Sample
+sampleUnder columns vs = sampleOf (tab 4 (λ name. valueUnder name (columnsOf columns) vs))
+
+-- the same of these values
 unfoldable pub rowOfValues : Columns → ℕ → List ℕ → Answer Sample
 rowOfValues columns line vs = do
   values ← agreeing sampleSheet line (tab 4 (λ name. valueUnder name (columnsOf columns) vs))

@@ -3,4 +3,3 @@ pub mod cells;
 pub mod headings;
 pub mod numbers;
 pub mod rows;
-pub mod usual;

@@ -1,4 +1,4 @@
--- `samples::inputs::ahead_at_end` meets its contract. Assumes nothing.
+-- `held_inputs::inputs::ahead_at_end` meets its contract. Assumes nothing.
 use borrow.Author.Needs.{needs}
 use borrow.Author.Needs.{needs}
 use Rattle.held_inputs.proofs.inputs.ahead_at_end.Statement.{statement}

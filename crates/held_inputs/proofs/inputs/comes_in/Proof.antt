@@ -1,4 +1,4 @@
--- `samples::inputs::comes_in` meets its contract. Assumes nothing.
+-- `held_inputs::inputs::comes_in` meets its contract. Assumes nothing.
 use borrow.Author.Needs.{needs}
 use native.Mathlib.Omega.{arith}
 use borrow.Author.Tests.{le-leb, lt-leb}

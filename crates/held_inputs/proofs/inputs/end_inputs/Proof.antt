@@ -1,4 +1,4 @@
--- `samples::inputs::end_inputs` meets its contract. Assumes nothing.
+-- `held_inputs::inputs::end_inputs` meets its contract. Assumes nothing.
 use borrow.Author.Needs.{needs}
 use Rattle.held_inputs.proofs.EndLaws.{ended-right}
 use borrow.Author.Needs.{needs}

@@ -1,4 +1,4 @@
--- `samples::inputs::fill` meets its contract. Assumes nothing.
+-- `held_inputs::inputs::fill` meets its contract. Assumes nothing.
 use mathlib.Core.Path.{sym, _∙_}
 use native.Mathlib.Omega.{arith}
 use borrow.Author.Needs.{needs}

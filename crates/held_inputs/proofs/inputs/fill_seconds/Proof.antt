@@ -1,4 +1,4 @@
--- `samples::inputs::fill_seconds` meets its contract: the seconds so far are told, and the others are told by what is left. Assumes nothing.
+-- `held_inputs::inputs::fill_seconds` meets its contract: the seconds so far are told, and the others are told by what is left. Assumes nothing.
 use Prim.Native.Nat.{ℕ, _-_}
 use mathlib.Core.Path.{_≡_, refl, sym, ap, _∙_}
 use mathlib.Core.List.{List, _++_}

@@ -1,4 +1,4 @@
--- `samples::inputs::filled_at` meets its contract. Assumes nothing.
+-- `held_inputs::inputs::filled_at` meets its contract. Assumes nothing.
 use borrow.Author.Needs.{needs}
 use Rattle.held_inputs.proofs.inputs.filled_at.Statement.{statement}
 use Rattle.held_inputs.proofs.inputs.filled_at.Tie as tie

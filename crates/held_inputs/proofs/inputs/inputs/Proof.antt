@@ -1,4 +1,4 @@
--- `samples::inputs::inputs` meets its contract. Assumes nothing.
+-- `held_inputs::inputs::inputs` meets its contract. Assumes nothing.
 use borrow.Author.Needs.{needs}
 use mathlib.Core.Path.{refl}
 use Rattle.held_inputs.specs.Held.{sourceRows}

@@ -1,4 +1,4 @@
--- `samples::inputs::reach` meets its contract: the row in force and the rows to come are those of the call, held as they were. Assumes nothing.
+-- `held_inputs::inputs::reach` meets its contract: the row in force and the rows to come are those of the call, held as they were. Assumes nothing.
 use Prim.Native.Nat.{_-_}
 use mathlib.Core.Path.{_≡_, ap}
 use native.Mathlib.Omega.{arith}

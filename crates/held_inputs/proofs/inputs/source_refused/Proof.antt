@@ -1,4 +1,4 @@
--- `samples::inputs::source_refused` meets its contract. Assumes nothing.
+-- `held_inputs::inputs::source_refused` meets its contract. Assumes nothing.
 use borrow.Author.Needs.{needs}
 use Rattle.held_inputs.specs.Held.{sourceRefused}
 use Rattle.held_inputs.proofs.inputs.source_refused.Statement.{statement}

@@ -1,9 +1,9 @@
--- `samples::usual_seconds::fill_usual` meets its contract: whatever filling had come to its call has come to the loop's turn. Assumes nothing.
+-- `held_inputs::usual_seconds::fill_usual` meets its contract: whatever filling had come to its call has come to the loop's turn. Assumes nothing.
 use Prim.Native.Nat.{_+_, _-_}
 use native.Mathlib.Omega.{arith}
 use lib.ListN.{length}
 use borrow.Author.Needs.{needs}
-use Rattle.samples.specs.Streamed.{UsualLater}
+use Rattle.usual_rows.specs.Usual.{UsualLater}
 use Rattle.held_inputs.specs.Held.{fillStateAt, GoesOn}
 use Rattle.held_inputs.proofs.UsualSeconds.{none-told, second-told, row-told}
 use Rattle.held_inputs.proofs.usual_seconds.fill_usual.Statement.{statement}

@@ -1,4 +1,4 @@
--- `samples::usual_seconds::usual_seconds` meets its contract. Assumes nothing.
+-- `held_inputs::usual_seconds::usual_seconds` meets its contract. Assumes nothing.
 use mathlib.Core.Path.{_≡_}
 use native.Mathlib.Omega.{arith}
 use borrow.Author.Needs.{needs}

@@ -2,7 +2,7 @@
 use mathlib.Core.Path.{_≡_, sym}
 use native.Mathlib.Omega.{arith}
 use Rattle.rules.proofs.Tests.{never}
-use Rattle.sheet.specs.Usual.{UsualRight}
+use Rattle.usual_rows.specs.Usual.{UsualRight}
 use Rattle.samples.proofs.LineLaws.{usual-told}
 use borrow.Author.Needs.{needs}
 use Rattle.samples.proofs.reader.line_at.Statement.{statement}
