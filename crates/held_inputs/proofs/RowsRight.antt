@@ -15,7 +15,7 @@ use Rattle.rules.specs.SampleFile.{sampleSheet, laterRows, rowsAfter, sheetLine
 use Rattle.rules.specs.Run.{inputsOf}
 use Rattle.rules.proofs.Checks.{not-accepted, same-value}
 use Rattle.rules.proofs.SampleRows.{RowRight, RowsRight, later-right, after-right, sheet-right, head-right, tail-right, holding-right}
-use Rattle.sheet.specs.Headings.{columnsOf}
+use Rattle.sheet_headings.specs.Headings.{columnsOf}
 use Rattle.samples.specs.declared.stage.Stage.{Stage}
 use Rattle.held_inputs.specs.declared.inputs.Ahead.{Ahead}
 use Rattle.held_inputs.specs.declared.inputs.InputSource.{InputSource}

@@ -10,7 +10,7 @@ use borrow.Author.Tests.{lt-leb}
 use Rattle.rules.specs.declared.samples.Sample.{Sample}
 use Rattle.rules.specs.declared.run.Inputs.{Inputs}
 use Rattle.rules.proofs.Tests.{never}
-use Rattle.sheet.specs.declared.headings.Columns.{Columns}
+use Rattle.sheet_headings.specs.declared.headings.Columns.{Columns}
 use Rattle.samples.specs.declared.stage.Stage.{Stage}
 use Rattle.held_inputs.specs.declared.inputs.Ahead.{Ahead}
 use Rattle.held_inputs.specs.declared.inputs.Begun.{Begun}

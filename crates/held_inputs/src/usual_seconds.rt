@@ -8,7 +8,7 @@ use crate::inputs::InputSource;
 use rules::samples::Sample;
 use samples::stage::Stage;
 use samples::stage::next_line;
-use sheet::headings::Columns;
+use sheet_headings::headings::Columns;
 use usual_rows::usual::Usual;
 use usual_rows::usual::usual_later;
 use words::arithmetic::wide;

@@ -24,11 +24,11 @@ use Rattle.samples.specs.declared.stage.Found.{Found}
 use Rattle.samples.specs.ToCome.{mostPlace, placed, samplesOf, answerFrom, RowsRead, upToRefused, toCome, fileRows, rowFirst, answerOf, allRead, endOf}
 use Rattle.samples.specs.declared.reader.SampleReader.{SampleReader}
 use Rattle.samples.specs.Streamed.{begunWith, linesAfter, begunIn, yetToCome, isRow}
-use Rattle.sheet.specs.declared.headings.Columns.{Columns}
+use Rattle.sheet_headings.specs.declared.headings.Columns.{Columns}
 use Rattle.sheet.specs.Rows.{rowIn}
 use Rattle.usual_rows.specs.Usual.{UsualRight}
 use Rattle.rules.proofs.Checks.{not-accepted}
-use Rattle.sheet.proofs.PartsAt.{index-le, part-first}
+use Rattle.sheet_headings.proofs.PartsAt.{index-le, part-first}
 use Rattle.samples.proofs.UpToRefused.{answer-read}
 
 -- ---- "one CR just before it is dropped"

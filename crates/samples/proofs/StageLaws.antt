@@ -15,13 +15,13 @@ use Rattle.rules.specs.Lines.{Line}
 use Rattle.rules.specs.SampleFile.{sampleSheet, headingLine, rowValues, timeIn, laterRows, rowsAfter, sheetLines, sampleOf}
 use Rattle.rules.proofs.Tests.{never}
 use Rattle.rules.proofs.Checks.{bound, same-value}
-use Rattle.sheet.specs.declared.headings.Columns.{Columns}
-use Rattle.sheet.specs.declared.headings.Headed.{Headed}
+use Rattle.sheet_headings.specs.declared.headings.Columns.{Columns}
+use Rattle.sheet_headings.specs.declared.headings.Headed.{Headed}
 use Rattle.sheet.specs.declared.rows.RowRead.{RowRead}
 use Rattle.samples.specs.declared.stage.Stage.{Stage}
 use Rattle.samples.specs.declared.stage.Found.{Found}
 use Rattle.samples.specs.declared.stage.Turn.{Turn}
-use Rattle.sheet.specs.Headings.{columnsOf, headedOf}
+use Rattle.sheet_headings.specs.Headings.{columnsOf, headedOf}
 use Rattle.sheet.specs.Rows.{rowOf, rowIn}
 use Rattle.samples.specs.ToCome.{mostPlace, placed, samplesOf, answerFrom, rowBefore, RowsRead, longest, upToRefused, toCome, rowFirst, endOf}
 use Rattle.samples.specs.Streamed.{isRow}

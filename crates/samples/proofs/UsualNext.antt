@@ -7,7 +7,7 @@ use borrow.Author.Tests.{lt-ltb}
 use Rattle.rules.specs.declared.samples.Sample.{Sample}
 use Rattle.rules.specs.Answers.{accepted}
 use Rattle.rules.specs.Lines.{Line}
-use Rattle.sheet.specs.declared.headings.Columns.{Columns}
+use Rattle.sheet_headings.specs.declared.headings.Columns.{Columns}
 use Rattle.sheet.specs.declared.rows.RowRead.{RowRead}
 use Rattle.sheet.specs.Rows.{rowIn}
 use Rattle.samples.specs.declared.stage.Stage.{Stage}

@@ -5,7 +5,7 @@ use mathlib.Core.List.{List, [], _++_}
 use native.Mathlib.Omega.{arith}
 use lib.ListN.{drop}
 use Rattle.rules.specs.declared.samples.Sample.{Sample}
-use Rattle.sheet.specs.declared.headings.Columns.{Columns}
+use Rattle.sheet_headings.specs.declared.headings.Columns.{Columns}
 use Rattle.samples.specs.declared.stage.Stage.{Stage}
 use Rattle.samples.specs.declared.stage.Found.{Found}
 use Rattle.samples.specs.declared.check.Span.{Span}

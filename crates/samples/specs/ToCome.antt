@@ -9,7 +9,7 @@ use Rattle.rules.specs.declared.answers.Verdict.{Verdict}
 use Rattle.rules.specs.SampleFile.{sampleSheet, sheetLines, rowsAfter, laterRows, sampleOf}
 use Rattle.samples.specs.declared.stage.Stage.{Stage}
 use Rattle.samples.specs.declared.stage.Found.{Found}
-use Rattle.sheet.specs.Headings.{columnsOf}
+use Rattle.sheet_headings.specs.Headings.{columnsOf}
 
 -- the greatest place that 64 bits hold; a line beyond it has it as its place
 abbrev pub mostPlace : ℕ

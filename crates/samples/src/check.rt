@@ -15,7 +15,7 @@ use crate::stage::Found;
 use crate::stage::Stage;
 use crate::stage::next_line;
 use rules::answers::Refusal;
-use sheet::headings::Columns;
+use sheet_headings::headings::Columns;
 use usual_rows::usual::Usual;
 use usual_rows::usual::usual_later;
 

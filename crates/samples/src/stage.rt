@@ -4,17 +4,17 @@ ghost use Prim.Native.Nat.{ℕ, suc, min, _<_};
 ghost use mathlib.Core.List.{List, [], _∷_};
 ghost use Rattle.rules.specs.Lines.{Line};
 ghost use Rattle.rules.specs.SampleFile.{sampleSheet, headingLine};
-ghost use Rattle.sheet.specs.Headings.{headedOf};
+ghost use Rattle.sheet_headings.specs.Headings.{headedOf};
 ghost use Rattle.sheet.specs.Rows.{rowOf, rowIn};
 ghost use Rattle.samples.specs.ToCome.{mostPlace, toCome, rowFirst, endOf};
 use rules::answers::Refusal;
 use rules::answers::Verdict;
 use rules::samples::Sample;
-use sheet::headings::Columns;
-use sheet::headings::Headed;
-use sheet::headings::heading_line;
 use sheet::rows::RowRead;
 use sheet::rows::read_row;
+use sheet_headings::headings::Columns;
+use sheet_headings::headings::Headed;
+use sheet_headings::headings::heading_line;
 
 // The heading line is awaited; the first row; a later row, with the columns, the time of the last accepted row, and how many
 // lines there were; or a line was refused.

@@ -10,10 +10,10 @@ use Rattle.rules.specs.declared.samples.Sample.{Sample}
 use Rattle.rules.specs.Numbers.{tab}
 use Rattle.rules.specs.Answers.{Answer, accepted, refused, refusalOf, _>>=_}
 use Rattle.rules.specs.SampleFile.{sampleSheet, cell, cellValues, valueUnder}
-use Rattle.sheet.specs.declared.headings.Columns.{Columns}
+use Rattle.sheet_headings.specs.declared.headings.Columns.{Columns}
 use Rattle.sheet.specs.declared.numbers.CellValue.{CellValue}
 use Rattle.sheet.specs.declared.numbers.CellValue.the-variants.{Value, Malformed, OverLimit}
-use Rattle.sheet.specs.Headings.{columnsOf}
+use Rattle.sheet_headings.specs.Headings.{columnsOf}
 use Rattle.sheet.specs.Cells.{cellOf}
 use Rattle.sheet.specs.Rows.{cellRefusal, sampleUnder, rowOfValues, rowOfCells}
 use Rattle.sheet.proofs.numbers.CellValue.{the-type}

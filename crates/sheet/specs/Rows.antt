@@ -8,9 +8,9 @@ use Rattle.rules.specs.Numbers.{tab}
 use Rattle.rules.specs.declared.answers.Refusal.{Refusal}
 use Rattle.rules.specs.SampleFile.{sampleSheet, cellValues, valueUnder, agreeing, rowValues, sampleOf}
 use Rattle.sheet.specs.declared.numbers.CellValue.{CellValue}
-use Rattle.sheet.specs.declared.headings.Columns.{Columns}
+use Rattle.sheet_headings.specs.declared.headings.Columns.{Columns}
 use Rattle.sheet.specs.declared.rows.RowRead.{RowRead}
-use Rattle.sheet.specs.Headings.{columnsOf}
+use Rattle.sheet_headings.specs.Headings.{columnsOf}
 
 abbrev pub rowOf : RowRead → Answer Sample
 rowOf (RowRead.Values x) = accepted x

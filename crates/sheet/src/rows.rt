@@ -3,15 +3,15 @@ ghost use mathlib.Core.Path.{_≡_};
 ghost use Prim.Native.Nat.{ℕ, _<_};
 ghost use mathlib.Core.List.{[], _∷_};
 ghost use Rattle.rules.specs.SampleFile.{valueUnder};
-ghost use Rattle.sheet.specs.Headings.{columnsOf};
+ghost use Rattle.sheet_headings.specs.Headings.{columnsOf};
 ghost use Rattle.sheet.specs.Rows.{rowOf, rowIn, rowOfCells, rowOfValues, sampleUnder, cellRefusal};
-use crate::cells::cell_at;
-use crate::headings::Columns;
 use crate::numbers::CellValue;
 use crate::numbers::cell_under;
 use rules::answers::Refusal;
 use rules::limits::MOST_LINE;
 use rules::samples::Sample;
+use sheet_headings::cells::cell_at;
+use sheet_headings::headings::Columns;
 
 pub enum RowRead {
     Values(Sample),

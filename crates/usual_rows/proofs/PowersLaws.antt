@@ -7,7 +7,7 @@ use native.Mathlib.Numerals.{add-one}
 use lib.ListN.{length, getD, set}
 use lib.Seq.{getD-set-same, getD-set-other}
 use Rattle.rules.specs.SampleFile.{powerCell}
-use Rattle.sheet.specs.declared.headings.Columns.{Columns}
+use Rattle.sheet_headings.specs.declared.headings.Columns.{Columns}
 use Rattle.sheet.specs.declared.rows.Powers.{Powers}
 use Rattle.usual_rows.specs.declared.usual.PowersRead.{PowersRead}
 use Rattle.usual_rows.specs.declared.usual.Usual.{Usual}

@@ -18,14 +18,14 @@ use Rattle.rules.specs.Lines.{ended}
 use Rattle.rules.specs.Answers.{Answer, accepted, need, _>>=_, _>>_}
 use Rattle.rules.specs.SampleFile.{sampleSheet, limited, timeCell, powerForm, powerValue, powerCell, cell, valueUnder, sampleOf}
 use Rattle.rules.proofs.Tests.{both, and-true, fact-within, every-append}
-use Rattle.sheet.specs.declared.headings.Columns.{Columns}
+use Rattle.sheet_headings.specs.declared.headings.Columns.{Columns}
 use Rattle.usual_rows.specs.declared.usual.DigitRun.{DigitRun}
 use Rattle.sheet.specs.declared.rows.Powers.{Powers}
 use Rattle.sheet.specs.Rows.{rowIn, rowOfValues, rowOfCells}
 use Rattle.usual_rows.specs.declared.usual.Usual.{Usual}
 use Rattle.usual_rows.specs.Usual.{Part, DigitsTaken, CellPart, CellTaken, TimeTaken, PowerTaken, EndTaken, PowersNamed, usualValues, usualOf}
-use Rattle.sheet.specs.Headings.{columnsOf}
-use Rattle.sheet.proofs.PartsAt.{part-last}
+use Rattle.sheet_headings.specs.Headings.{columnsOf}
+use Rattle.sheet_headings.proofs.PartsAt.{part-last}
 use Rattle.usual_rows.proofs.Least.{Least, least-index, least-down, least-one, digits-least}
 use Rattle.usual_rows.proofs.LineEnd.{end-dropped, end-least}
 use Rattle.sheet.proofs.DigitLaws.{from-below, below-most}

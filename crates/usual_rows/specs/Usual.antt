@@ -12,7 +12,7 @@ use Rattle.rules.specs.Bytes.{LF, CR, allDigits, valueFrom}
 use Rattle.rules.specs.Lines.{ended}
 use Rattle.rules.specs.Answers.{Answer, accepted}
 use Rattle.rules.specs.SampleFile.{timeCell, powerCell}
-use Rattle.sheet.specs.declared.headings.Columns.{Columns}
+use Rattle.sheet_headings.specs.declared.headings.Columns.{Columns}
 use Rattle.usual_rows.specs.declared.usual.DigitRun.{DigitRun}
 use Rattle.usual_rows.specs.declared.usual.CellRead.{CellRead}
 use Rattle.usual_rows.specs.declared.usual.PowersRead.{PowersRead}

@@ -12,10 +12,10 @@ use rules::limits::MOST_POWER;
 use rules::limits::MOST_TIME;
 use rules::limits::MOST_TIME_DIGITS;
 use rules::samples::Sample;
-use sheet::headings::Columns;
 use sheet::numbers::last_worth;
 use sheet::rows::Powers;
 use sheet::rows::sample_under;
+use sheet_headings::headings::Columns;
 use words::arithmetic::byte_u32;
 
 // The most bytes that a usual row has: 9 digits, three powers of 10 bytes, three commas, CR and LF.

@@ -9,8 +9,8 @@ use lib.ListN.{length, take, drop, getD, length-drop, drop-of-length-le}
 use lib.Seq.{take-length, drop-drop, length-take-le}
 use Rattle.bytes.specs.Bytes.{indexOf, slice}
 use Rattle.rules.specs.Bytes.{comma, parts}
-use Rattle.sheet.specs.Cells.{cellFrom}
-use Rattle.sheet.proofs.PartsAt.{index-le, part-first, part-last}
+use Rattle.sheet_headings.specs.Cells.{cellFrom}
+use Rattle.sheet_headings.proofs.PartsAt.{index-le, part-first, part-last}
 
 -- the first part goes up to the first byte c
 first-part : (c : ℕ) (s : List ℕ) → getD (parts c s) 0 [] ≡ take (indexOf c s) s

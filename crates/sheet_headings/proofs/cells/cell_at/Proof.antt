@@ -1,11 +1,11 @@
--- `sheet::cells::cell_at` meets its contract. Assumes nothing.
+-- `sheet_headings::cells::cell_at` meets its contract. Assumes nothing.
 use Prim.Native.Nat.{_-_}
 use mathlib.Core.Path.{sym, ap, _∙_}
 use lib.ListN.{length, take, drop}
 use borrow.Author.Needs.{needs}
-use Rattle.sheet.proofs.CellLaws.{cell-to, cell-past, cell-whole}
-use Rattle.sheet.proofs.cells.cell_at.Statement.{statement}
-use Rattle.sheet.proofs.cells.cell_at.Tie as tie
+use Rattle.sheet_headings.proofs.CellLaws.{cell-to, cell-past, cell-whole}
+use Rattle.sheet_headings.proofs.cells.cell_at.Statement.{statement}
+use Rattle.sheet_headings.proofs.cells.cell_at.Tie as tie
 
 find-requires : tie.Need-find-requires
 find-requires c κs = search needs

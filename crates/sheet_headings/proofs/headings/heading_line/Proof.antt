@@ -1,4 +1,4 @@
--- `sheet::headings::heading_line` meets its contract: what the headings past each one come to decides. Assumes nothing.
+-- `sheet_headings::headings::heading_line` meets its contract: what the headings past each one come to decides. Assumes nothing.
 use Prim.Native.Nat.{_≤_, _-_}
 use mathlib.Core.Path.{_≡_, sym, _∙_}
 use native.Mathlib.Omega.{arith}
@@ -7,10 +7,10 @@ use borrow.Author.Needs.{needs}
 use lib.ListN.{length}
 use Rattle.rules.specs.SampleFile.{sampleSheet, headingLine}
 use denote.Ref.{now}
-use Rattle.sheet.proofs.ColumnsRead.{Right, none-right}
-use Rattle.sheet.proofs.HeadingLineLaws.{heading-within, fromThere, too-long, not-time, after-time, refused-there, found-there, missing-there, complete-there}
-use Rattle.sheet.proofs.headings.heading_line.Statement.{statement}
-use Rattle.sheet.proofs.headings.heading_line.Tie as tie
+use Rattle.sheet_headings.proofs.ColumnsRead.{Right, none-right}
+use Rattle.sheet_headings.proofs.HeadingLineLaws.{heading-within, fromThere, too-long, not-time, after-time, refused-there, found-there, missing-there, complete-there}
+use Rattle.sheet_headings.proofs.headings.heading_line.Statement.{statement}
+use Rattle.sheet_headings.proofs.headings.heading_line.Tie as tie
 
 abbrev Inv-loop : tie.InvT-loop
 Inv-loop size text read₀ end₀ read end = (end ≤ length text) × Right read × (headingLine (sampleSheet .names) (record { size = size; text = text }) ≡ fromThere read text end)

@@ -14,8 +14,8 @@ use Rattle.rules.specs.Answers.{accepted, refused}
 use Rattle.rules.specs.SampleFile.{nameOf, occurs, headings}
 use Rattle.rules.proofs.Tests.{never, both}
 use Rattle.rules.proofs.Checks.{passed, same-value}
-use Rattle.sheet.specs.declared.headings.Columns.{Columns}
-use Rattle.sheet.specs.Headings.{columnsOf}
+use Rattle.sheet_headings.specs.declared.headings.Columns.{Columns}
+use Rattle.sheet_headings.specs.Headings.{columnsOf}
 
 -- ---- the same bytes
 

@@ -2,8 +2,8 @@
 use Prim.Native.Nat.{ℕ}
 use mathlib.Core.List.{List, [], _∷_}
 use Rattle.rules.specs.Answers.{Answer, accepted, refusalOf}
-use Rattle.sheet.specs.declared.headings.Columns.{Columns}
-use Rattle.sheet.specs.declared.headings.Headed.{Headed}
+use Rattle.sheet_headings.specs.declared.headings.Columns.{Columns}
+use Rattle.sheet_headings.specs.declared.headings.Headed.{Headed}
 
 -- "`t` first": the name of each column, by its place among the names
 abbrev pub columnsOf : Columns → List ℕ

@@ -14,9 +14,9 @@ use Rattle.rules.specs.Answers.{Answer, accepted, refused, need, _>>=_, _>>_}
 use Rattle.rules.specs.SampleFile.{sampleSheet, nameOf, occurs, headings}
 use Rattle.rules.proofs.Tests.{never, both, all-at, to-at}
 use Rattle.rules.proofs.Checks.{bound, same-value}
-use Rattle.sheet.specs.declared.headings.Columns.{Columns}
-use Rattle.sheet.specs.Headings.{columnsOf}
-use Rattle.sheet.proofs.HeadingLaws.{same-true, heading-blank, heading-unknown, heading-twice, heading-new, heading-read, headings-end}
+use Rattle.sheet_headings.specs.declared.headings.Columns.{Columns}
+use Rattle.sheet_headings.specs.Headings.{columnsOf}
+use Rattle.sheet_headings.proofs.HeadingLaws.{same-true, heading-blank, heading-unknown, heading-twice, heading-new, heading-read, headings-end}
 
 -- one that was read; 0, the time's name, stands for one that is still to be read
 abbrev pub ifRead : ℕ → List ℕ → List ℕ

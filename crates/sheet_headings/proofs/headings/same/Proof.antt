@@ -1,4 +1,4 @@
--- `sheet::headings::same` meets its contract: what is left of both texts decides. Assumes nothing.
+-- `sheet_headings::headings::same` meets its contract: what is left of both texts decides. Assumes nothing.
 use borrow.Author.Needs.{needs}
 use native.Mathlib.Omega.{arith}
 use mathlib.Core.Path.{_≡_, refl, sym, _∙_}
@@ -6,9 +6,9 @@ use Prim.Native.Nat.{_≤_, _-_}
 use lib.ListN.{length, drop}
 use denote.Ref.{now}
 use Rattle.rules.specs.Bytes.{same}
-use Rattle.sheet.proofs.HeadingLaws.{other-length, same-end, same-on, same-off}
-use Rattle.sheet.proofs.headings.same.Statement.{statement}
-use Rattle.sheet.proofs.headings.same.Tie as tie
+use Rattle.sheet_headings.proofs.HeadingLaws.{other-length, same-end, same-on, same-off}
+use Rattle.sheet_headings.proofs.headings.same.Statement.{statement}
+use Rattle.sheet_headings.proofs.headings.same.Tie as tie
 
 abbrev Inv-loop : tie.InvT-loop
 Inv-loop a b i₀ i = (i ≤ length a) × (same a b ≡ same (drop i a) (drop i b))

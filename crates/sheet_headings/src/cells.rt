@@ -1,7 +1,7 @@
 // "A heading or cell is handed back as the part of the line that it is": the one reader of both.
 ghost use mathlib.Core.Path.{_≡_};
 ghost use lib.ListN.{length, take, drop};
-ghost use Rattle.sheet.specs.Cells.{cellFrom};
+ghost use Rattle.sheet_headings.specs.Cells.{cellFrom};
 
 // The heading or cell that starts at a place of the line, up to the next comma or the line's end; nothing past the line's end.
 pub fn cell_at(line: &[u8], at: usize) -> &[u8]

@@ -5,7 +5,7 @@ ghost use lib.ListN.{drop};
 ghost use Rattle.rules.specs.Answers.{accepted, _>>=_ as _then_};
 ghost use Rattle.rules.specs.Bytes.{same};
 ghost use Rattle.rules.specs.SampleFile.{sampleSheet, nameOf, headings, headingLine};
-ghost use Rattle.sheet.specs.Headings.{headedOf, columnsOf};
+ghost use Rattle.sheet_headings.specs.Headings.{headedOf, columnsOf};
 use crate::cells::cell_at;
 use rules::answers::Refusal;
 use rules::limits::MOST_LINE;

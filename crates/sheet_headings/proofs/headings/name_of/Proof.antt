@@ -1,10 +1,10 @@
--- `sheet::headings::name_of` meets its contract: the names are tried one after the other. Assumes nothing.
+-- `sheet_headings::headings::name_of` meets its contract: the names are tried one after the other. Assumes nothing.
 use borrow.Author.Needs.{needs}
 use Rattle.rules.specs.Bytes.{bytes}
 use Rattle.rules.specs.SampleFile.{sampleSheet}
-use Rattle.sheet.proofs.HeadingLaws.{name-here, name-later, no-name}
-use Rattle.sheet.proofs.headings.name_of.Statement.{statement}
-use Rattle.sheet.proofs.headings.name_of.Tie as tie
+use Rattle.sheet_headings.proofs.HeadingLaws.{name-here, name-later, no-name}
+use Rattle.sheet_headings.proofs.headings.name_of.Statement.{statement}
+use Rattle.sheet_headings.proofs.headings.name_of.Tie as tie
 
 slice-aggregate-same : tie.Need-slice-aggregate-same
 slice-aggregate-same c = search needs

@@ -1,10 +1,10 @@
--- `sheet::headings::with_heading` meets its contract. Assumes nothing.
+-- `sheet_headings::headings::with_heading` meets its contract. Assumes nothing.
 use mathlib.Core.Path.{sym, _∙_}
 use borrow.Author.Needs.{needs}
 use Rattle.rules.specs.SampleFile.{sampleSheet}
-use Rattle.sheet.proofs.HeadingLaws.{heading-blank, heading-unknown, heading-twice, heading-new, headings-end, occurs-in}
-use Rattle.sheet.proofs.headings.with_heading.Statement.{statement}
-use Rattle.sheet.proofs.headings.with_heading.Tie as tie
+use Rattle.sheet_headings.proofs.HeadingLaws.{heading-blank, heading-unknown, heading-twice, heading-new, headings-end, occurs-in}
+use Rattle.sheet_headings.proofs.headings.with_heading.Statement.{statement}
+use Rattle.sheet_headings.proofs.headings.with_heading.Tie as tie
 
 returns : tie.Need-returns
 returns c = rw (heading-blank _ _ _ _ (c .if1 .taken))

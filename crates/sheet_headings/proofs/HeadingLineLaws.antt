@@ -14,13 +14,13 @@ use Rattle.rules.specs.Bytes.{bytes, comma, same, parts}
 use Rattle.rules.specs.Answers.{Answer, accepted, refused, _>>=_}
 use Rattle.rules.specs.Lines.{Line, cellsOf}
 use Rattle.rules.specs.SampleFile.{sampleSheet, nameOf, occurs, headings, headingLine}
-use Rattle.sheet.specs.declared.headings.Columns.{Columns}
-use Rattle.sheet.specs.declared.headings.Headed.{Headed}
-use Rattle.sheet.specs.Cells.{cellFrom}
-use Rattle.sheet.specs.Headings.{columnsOf, headedOf}
-use Rattle.sheet.proofs.CellLaws.{cell-within, cell-last, cell-first}
-use Rattle.sheet.proofs.HeadingLaws.{heading-new, headings-end}
-use Rattle.sheet.proofs.ColumnsRead.{names, seen, Right, noneRead, along, complete, turn-refused, turn-found, one-missing, none-missing}
+use Rattle.sheet_headings.specs.declared.headings.Columns.{Columns}
+use Rattle.sheet_headings.specs.declared.headings.Headed.{Headed}
+use Rattle.sheet_headings.specs.Cells.{cellFrom}
+use Rattle.sheet_headings.specs.Headings.{columnsOf, headedOf}
+use Rattle.sheet_headings.proofs.CellLaws.{cell-within, cell-last, cell-first}
+use Rattle.sheet_headings.proofs.HeadingLaws.{heading-new, headings-end}
+use Rattle.sheet_headings.proofs.ColumnsRead.{names, seen, Right, noneRead, along, complete, turn-refused, turn-found, one-missing, none-missing}
 
 -- the headings past one that ends at this place
 abbrev pub past : List ℕ → ℕ → List (List ℕ)
