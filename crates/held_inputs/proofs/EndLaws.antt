@@ -6,14 +6,14 @@ use mathlib.Core.List.{List, []}
 use Rattle.rules.specs.Answers.{isAccepted}
 use Rattle.rules.specs.Lines.{Line}
 use Rattle.rules.proofs.Tests.{never}
-use Rattle.samples.specs.declared.stage.Stage.{Stage}
-use Rattle.samples.specs.declared.reader.Ending.{Ending}
+use Rattle.sheet_stages.specs.declared.stage.Stage.{Stage}
+use Rattle.sample_rows.specs.declared.reader.Ending.{Ending}
 use Rattle.held_inputs.specs.declared.inputs.Ahead.{Ahead}
 use Rattle.held_inputs.specs.declared.inputs.InputSource.{InputSource}
-use Rattle.samples.specs.ToCome.{RowsRead, toCome}
-use Rattle.samples.specs.Streamed.{yetToCome, linesAfter, begunIn, isRefused, endingOf}
+use Rattle.sheet_stages.specs.ToCome.{RowsRead, toCome, isRefused}
+use Rattle.sample_rows.specs.Streamed.{yetToCome, linesAfter, begunIn, endingOf}
 use Rattle.held_inputs.specs.Held.{rowsAhead, sourceRows, isEnded, isRefusal, refusedAhead, sourceRefused, aheadAtEnd, atEndOf, EndedRight}
-use Rattle.samples.proofs.StageLaws.{refused-read}
+use Rattle.sheet_stages.proofs.StageLaws.{refused-read}
 
 -- ---- refused
 

@@ -13,16 +13,16 @@ use Rattle.rules.specs.declared.run.Inputs.{Inputs}
 use Rattle.rules.specs.Answers.{isAccepted}
 use Rattle.rules.specs.Run.{inputsOf}
 use Rattle.rules.proofs.Tests.{never}
-use Rattle.samples.specs.declared.reader.SampleReader.{SampleReader}
+use Rattle.sample_rows.specs.declared.reader.SampleReader.{SampleReader}
 use Rattle.held_inputs.specs.declared.inputs.Ahead.{Ahead}
 use Rattle.held_inputs.specs.declared.inputs.Begun.{Begun}
 use Rattle.held_inputs.specs.declared.inputs.InputSource.{InputSource}
 use Rattle.held_inputs.specs.declared.inputs.Filled.{Filled}
 use Rattle.held_inputs.specs.declared.inputs.Reached.{Reached}
-use Rattle.samples.specs.ToCome.{RowsRead}
-use Rattle.samples.specs.Streamed.{yetToCome}
+use Rattle.sheet_stages.specs.ToCome.{RowsRead}
+use Rattle.sample_rows.specs.Streamed.{yetToCome}
 use Rattle.held_inputs.specs.Held.{rowsAhead, readerAt, sourceRows, sourceRefused, isRefusal, heldFrom, latest, inputsIn, AtSecond, ReachedRight, HeldOn, placesOf, KeptFrom, FilledRight, Filling}
-use Rattle.samples.proofs.LineLaws.{drop-least}
+use Rattle.sample_rows.proofs.LineLaws.{drop-least}
 use Rattle.held_inputs.proofs.HeldLaws.{latest-none, latest-of, held-next}
 use Rattle.held_inputs.proofs.EndLaws.{nothing-left, for-good, no-refusal, refused-unread}
 

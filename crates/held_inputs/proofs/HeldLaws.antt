@@ -14,15 +14,15 @@ use Rattle.rules.specs.Numbers.{if_then_else_}
 use Rattle.rules.specs.SampleFile.{holding}
 use Rattle.rules.specs.Run.{inputsOf}
 use Rattle.rules.proofs.Tests.{never}
-use Rattle.samples.specs.declared.stage.Found.{Found}
-use Rattle.samples.specs.declared.reader.NextRow.{NextRow}
+use Rattle.sheet_stages.specs.declared.stage.Found.{Found}
+use Rattle.sample_rows.specs.declared.reader.NextRow.{NextRow}
 use Rattle.held_inputs.specs.declared.inputs.Ahead.{Ahead}
 use Rattle.held_inputs.specs.declared.inputs.InForce.{InForce}
 use Rattle.held_inputs.specs.declared.inputs.Begun.{Begun}
-use Rattle.samples.specs.ToCome.{RowsRead, rowFirst, allRead}
-use Rattle.samples.specs.Streamed.{yetToCome, isRow, NextRight}
+use Rattle.sheet_stages.specs.ToCome.{RowsRead, rowFirst, allRead, isRow}
+use Rattle.sample_rows.specs.Streamed.{yetToCome, NextRight}
 use Rattle.held_inputs.specs.Held.{rowsAhead, isEnded, isRefusal, heldFrom, latest, Onward, Tellable, lastComesIn, comesIn, readerAt, ReachedRight}
-use Rattle.samples.proofs.LineLaws.{drop-least}
+use Rattle.sample_rows.proofs.LineLaws.{drop-least}
 
 -- ---- rows that are held
 

@@ -16,14 +16,14 @@ use Rattle.rules.specs.Run.{inputsOf}
 use Rattle.rules.proofs.Checks.{not-accepted, same-value}
 use Rattle.rules.proofs.SampleRows.{RowRight, RowsRight, later-right, after-right, sheet-right, head-right, tail-right, holding-right}
 use Rattle.sheet_headings.specs.Headings.{columnsOf}
-use Rattle.samples.specs.declared.stage.Stage.{Stage}
+use Rattle.sheet_stages.specs.declared.stage.Stage.{Stage}
 use Rattle.held_inputs.specs.declared.inputs.Ahead.{Ahead}
 use Rattle.held_inputs.specs.declared.inputs.InputSource.{InputSource}
 use Rattle.held_inputs.specs.declared.inputs.Filled.{Filled}
-use Rattle.samples.specs.ToCome.{placed, samplesOf, answerFrom, RowsRead, toCome}
-use Rattle.samples.specs.Streamed.{yetToCome, linesAfter, begunIn}
+use Rattle.sheet_stages.specs.ToCome.{placed, samplesOf, answerFrom, RowsRead, toCome}
+use Rattle.sample_rows.specs.Streamed.{yetToCome, linesAfter, begunIn}
 use Rattle.held_inputs.specs.Held.{rowsAhead, sourceRows, heldFrom, inputsIn, FilledRight, atEndOf, EndedRight}
-use Rattle.samples.proofs.UpToRefused.{read-holds}
+use Rattle.sheet_stages.proofs.UpToRefused.{read-holds}
 use Rattle.held_inputs.proofs.HeldLaws.{held-none}
 
 -- what a second is handed, in the words of its row

@@ -11,19 +11,19 @@ use Rattle.rules.specs.declared.samples.Sample.{Sample}
 use Rattle.rules.specs.declared.run.Inputs.{Inputs}
 use Rattle.rules.proofs.Tests.{never}
 use Rattle.sheet_headings.specs.declared.headings.Columns.{Columns}
-use Rattle.samples.specs.declared.stage.Stage.{Stage}
+use Rattle.sheet_stages.specs.declared.stage.Stage.{Stage}
 use Rattle.held_inputs.specs.declared.inputs.Ahead.{Ahead}
 use Rattle.held_inputs.specs.declared.inputs.Begun.{Begun}
 use Rattle.held_inputs.specs.declared.inputs.InputSource.{InputSource}
 use Rattle.held_inputs.specs.declared.usual_seconds.FillState.{FillState}
-use Rattle.samples.specs.declared.stage.Found.{Found}
-use Rattle.samples.specs.ToCome.{mostPlace, RowsRead, rowFirst}
+use Rattle.sheet_stages.specs.declared.stage.Found.{Found}
+use Rattle.sheet_stages.specs.ToCome.{mostPlace, RowsRead, rowFirst}
 use Rattle.usual_rows.specs.Usual.{UsualLater}
-use Rattle.samples.specs.Streamed.{yetToCome}
+use Rattle.sample_rows.specs.Streamed.{yetToCome}
 use Rattle.held_inputs.specs.Held.{readerAt, sourceRows, inputsIn, ReachedRight, HeldOn, placesOf, fillStateAt, filledAt, Filling, GoesOn}
 use Rattle.held_inputs.proofs.HeldLaws.{latest-of, in-force, before-next, onward-same}
 use Rattle.held_inputs.proofs.FillLaws.{filling-more}
-use Rattle.samples.proofs.UsualNext.{usual-on}
+use Rattle.sample_rows.proofs.UsualNext.{usual-on}
 
 -- ---- the row in force holds for one second more
 

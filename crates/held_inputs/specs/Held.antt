@@ -15,10 +15,10 @@ use Rattle.rules.specs.Answers.{isAccepted, refusalOf}
 use Rattle.rules.specs.SampleFile.{holding}
 use Rattle.rules.specs.Run.{inputsOf}
 use Rattle.sheet_headings.specs.declared.headings.Columns.{Columns}
-use Rattle.samples.specs.declared.stage.Stage.{Stage}
-use Rattle.samples.specs.declared.stage.Found.{Found}
-use Rattle.samples.specs.declared.reader.SampleReader.{SampleReader}
-use Rattle.samples.specs.declared.reader.Ending.{Ending}
+use Rattle.sheet_stages.specs.declared.stage.Stage.{Stage}
+use Rattle.sheet_stages.specs.declared.stage.Found.{Found}
+use Rattle.sample_rows.specs.declared.reader.SampleReader.{SampleReader}
+use Rattle.sample_rows.specs.declared.reader.Ending.{Ending}
 use Rattle.held_inputs.specs.declared.inputs.Ahead.{Ahead}
 use Rattle.held_inputs.specs.declared.inputs.InputSource.{InputSource}
 use Rattle.held_inputs.specs.declared.inputs.Filled.{Filled}
@@ -26,8 +26,8 @@ use Rattle.held_inputs.specs.declared.inputs.InForce.{InForce}
 use Rattle.held_inputs.specs.declared.inputs.Begun.{Begun}
 use Rattle.held_inputs.specs.declared.inputs.Reached.{Reached}
 use Rattle.held_inputs.specs.declared.usual_seconds.FillState.{FillState}
-use Rattle.samples.specs.ToCome.{RowsRead, rowFirst, allRead}
-use Rattle.samples.specs.Streamed.{yetToCome, isRefused}
+use Rattle.sheet_stages.specs.ToCome.{RowsRead, rowFirst, allRead, isRefused}
+use Rattle.sample_rows.specs.Streamed.{yetToCome}
 
 -- ---- the rows that are still to come into force
 

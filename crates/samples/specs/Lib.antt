@@ -1,4 +1,3 @@
--- What is still to come of a sample file, and the file in chunks.
-pub mod ToCome
+-- What the check of a sample file comes to, and the file in chunks.
 pub mod Streamed
 pub mod Chunks

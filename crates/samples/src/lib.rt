@@ -1,4 +1,2 @@
-// The sample file, in chunks of any length: what its lines come to, its rows and its check.
+// The check of a sample file, in chunks of any length.
 pub mod check;
-pub mod reader;
-pub mod stage;

@@ -6,10 +6,10 @@ use native.Mathlib.Omega.{arith}
 use lib.ListN.{drop}
 use borrow.Author.Needs.{needs}
 use borrow.Author.Tests.{not-true, not-false}
-use Rattle.samples.specs.declared.reader.SampleReader.{SampleReader}
-use Rattle.samples.specs.Streamed.{yetToCome}
+use Rattle.sample_rows.specs.declared.reader.SampleReader.{SampleReader}
+use Rattle.sample_rows.specs.Streamed.{yetToCome}
 use Rattle.held_inputs.specs.Held.{placesOf, readerAt, filledAt, Filling}
-use Rattle.samples.proofs.LineLaws.{kept-whole, at-end-of}
+use Rattle.sample_rows.proofs.LineLaws.{kept-whole, at-end-of}
 use Rattle.held_inputs.proofs.FillLaws.{filling-start, filling-more, filled, filled-short}
 use Rattle.held_inputs.proofs.inputs.fill_seconds.Statement.{statement}
 use Rattle.held_inputs.proofs.inputs.fill_seconds.Tie as tie

@@ -6,7 +6,7 @@ use lib.ListN.{length}
 use borrow.Author.Needs.{needs}
 use Rattle.rules.specs.declared.samples.Sample.{Sample}
 use Rattle.held_inputs.specs.declared.inputs.Ahead.{Ahead}
-use Rattle.samples.specs.Streamed.{isRow}
+use Rattle.sheet_stages.specs.ToCome.{isRow}
 use Rattle.held_inputs.specs.Held.{comesIn}
 use Rattle.held_inputs.proofs.HeldLaws.{Reaching, reaching-start, reaching-more, not-reached, reached}
 use Rattle.held_inputs.proofs.inputs.reach.Statement.{statement}

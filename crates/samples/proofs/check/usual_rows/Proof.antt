@@ -4,7 +4,7 @@ use mathlib.Core.List.{[]}
 use native.Mathlib.Omega.{arith}
 use lib.ListN.{length}
 use borrow.Author.Needs.{needs}
-use Rattle.samples.specs.declared.stage.Stage.{Stage}
+use Rattle.sheet_stages.specs.declared.stage.Stage.{Stage}
 use Rattle.usual_rows.specs.Usual.{UsualLater}
 use Rattle.samples.specs.Streamed.{CountedOn}
 use Rattle.samples.proofs.UsualRows.{none-counted, row-counted}
