@@ -16,13 +16,13 @@ use Rattle.rules.specs.Answers.{isAccepted}
 use Rattle.rules.specs.Seconds.{inputsEach, numbersOf, WorkedSeconds, cameTo, Seconds}
 use Rattle.dispatch.specs.Working.{rowsOf, runAfter}
 use Rattle.dispatch.proofs.Working.{rows-count}
-use Rattle.samples.specs.declared.inputs.InputSource.{InputSource}
-use Rattle.samples.specs.declared.inputs.Filled.{Filled}
-use Rattle.samples.specs.ToCome.{RowsRead, allRead}
-use Rattle.samples.specs.Held.{sourceRows, sourceEnded, heldFrom, inputsIn, placesOf, HeldOn, FilledRight, atEndOf, EndedRight}
-use Rattle.samples.proofs.LineLaws.{drop-least}
-use Rattle.samples.proofs.UpToRefused.{all-read}
-use Rattle.samples.proofs.EndLaws.{source-accepted}
+use Rattle.held_inputs.specs.declared.inputs.InputSource.{InputSource}
+use Rattle.held_inputs.specs.declared.inputs.Filled.{Filled}
+use Rattle.sheet_stages.specs.ToCome.{RowsRead, allRead}
+use Rattle.held_inputs.specs.Held.{sourceRows, sourceEnded, heldFrom, inputsIn, placesOf, HeldOn, FilledRight, atEndOf, EndedRight}
+use Rattle.sample_rows.proofs.LineLaws.{drop-least}
+use Rattle.sheet_stages.proofs.UpToRefused.{all-read}
+use Rattle.held_inputs.proofs.EndLaws.{source-accepted}
 use Rattle.course.specs.declared.state.Course.{Course}
 use Rattle.course.specs.declared.state.Halt.{Halt}
 use Rattle.course.specs.declared.state.Moved.{Moved}

@@ -21,11 +21,11 @@ use Rattle.rules.proofs.StationRead.{read-is-right}
 use Rattle.rules.proofs.SampleRows.{RowsRight}
 use Rattle.records.specs.NoRun.{noRun}
 use Rattle.records.proofs.StartTold.{start-accepted}
-use Rattle.samples.specs.ToCome.{placed, RowsRead, fileRows, allRead}
-use Rattle.samples.specs.Held.{sourceRows, heldFrom}
-use Rattle.samples.proofs.UpToRefused.{answer-all}
-use Rattle.samples.proofs.LineLaws.{file-answer}
-use Rattle.samples.proofs.RowsRight.{start-right, source-rows-right}
+use Rattle.sheet_stages.specs.ToCome.{placed, RowsRead, fileRows, allRead}
+use Rattle.held_inputs.specs.Held.{sourceRows, heldFrom}
+use Rattle.sheet_stages.proofs.UpToRefused.{answer-all}
+use Rattle.sample_rows.proofs.LineLaws.{file-answer}
+use Rattle.held_inputs.proofs.RowsRight.{start-right, source-rows-right}
 use Rattle.course.specs.declared.state.Course.{Course}
 use Rattle.course.specs.Ruled.{AllRight, none, more}
 use Rattle.course.specs.Coming.{inputsAll, Coming}

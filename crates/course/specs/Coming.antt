@@ -9,8 +9,8 @@ use Rattle.rules.specs.StationRecord.{someFileGives}
 use Rattle.rules.specs.RunRecord.{possible, mostSeconds}
 use Rattle.rules.specs.Run.{inputsOf}
 use Rattle.rules.proofs.Shapes.{Tables}
-use Rattle.samples.specs.ToCome.{allRead}
-use Rattle.samples.specs.Held.{sourceRows, sourceEnded, heldFrom}
+use Rattle.sheet_stages.specs.ToCome.{allRead}
+use Rattle.held_inputs.specs.Held.{sourceRows, sourceEnded, heldFrom}
 use Rattle.course.specs.declared.state.Course.{Course}
 use Rattle.course.specs.Ruled.{AllRight}
 

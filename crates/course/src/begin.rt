@@ -7,6 +7,7 @@ ghost use Rattle.samples.specs.Streamed.{checkedOf};
 ghost use Rattle.intake.specs.Stations.{stationWith};
 ghost use Rattle.course.specs.Begin.{Refuses, Starting, BegunAs, AskedAs};
 use crate::state::Course;
+use held_inputs::inputs::inputs;
 use intake::asked::seconds_asked;
 use intake::station_bytes::StationBytes;
 use intake::station_bytes::station_of;
@@ -16,7 +17,6 @@ use rules::answers::Refusal;
 use rules::answers::Verdict;
 use rules::station::Station;
 use samples::check::Checked;
-use samples::inputs::inputs;
 use station::reader::no_station;
 
 // The verdict on both files and the seconds asked, and the course that they come to; where it is refused, that of no station.

@@ -1,9 +1,9 @@
 // The course of a run between two calls, by value.
 ghost use mathlib.Core.Path.{_≡_};
+use held_inputs::inputs::InputSource;
 use rules::run::Run;
 use rules::run::SetState;
 use rules::station::Station;
-use samples::inputs::InputSource;
 
 pub struct Course {
     pub(crate) station: Station,

@@ -1,9 +1,9 @@
 // The headings or cells of a line by their places, counted from 0, with the functions that the check itself uses.
 ghost use Prim.Native.Nat.{_≤_};
-use sheet::cells::cell_at;
-use sheet::headings::name_of;
 use sheet::numbers::CellValue;
 use sheet::numbers::cell_under;
+use sheet_headings::cells::cell_at;
+use sheet_headings::headings::name_of;
 
 // One byte more than a line may have: who has that many needs no more to know that it is too long.
 pub const MOST_HELD: usize = 513;

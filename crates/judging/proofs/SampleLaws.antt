@@ -13,10 +13,11 @@ use Rattle.intake.specs.Tally.{talliedOf}
 use Rattle.intake.proofs.TallyLaws.{tallied-append}
 use Rattle.samples.specs.declared.check.SampleCheck.{SampleCheck}
 use Rattle.samples.specs.declared.check.Span.{Span}
-use Rattle.samples.specs.declared.stage.Stage as sheets
-use Rattle.samples.specs.ToCome.{toCome, upToRefused, answerFrom}
-use Rattle.samples.specs.Streamed as streamed
-use Rattle.samples.specs.Streamed.{checkedWith, yetToCome, spanned, linesAfter, begunIn}
+use Rattle.sheet_stages.specs.declared.stage.Stage as sheets
+use Rattle.sheet_stages.specs.ToCome.{toCome, upToRefused, answerFrom}
+use Rattle.sheet_stages.specs.ToCome as stages
+use Rattle.sample_rows.specs.Streamed.{yetToCome, linesAfter, begunIn}
+use Rattle.samples.specs.Streamed.{checkedWith, spanned}
 use Rattle.samples.proofs.CheckLaws.{span-place}
 use Rattle.samples.proofs.ChunkLaws.{refused-for-good}
 use Rattle.exchange.specs.declared.event.Event.{Event}
@@ -49,18 +50,18 @@ unfolding EntersSamples
 samples-enter h chunk c t fed is g w o = (samples-on g h w c t chunk (leftOf w 2) fed is o, omega arith, λ well. refl)
 
 -- a line that was refused is no accepted file
-refused-line : {A : Type 0} (c : SampleCheck) (span : Span) → streamed.isRefused (c .reader .stage) ≡ true → checkedWith c [] ≡ accepted span → A
+refused-line : {A : Type 0} (c : SampleCheck) (span : Span) → stages.isRefused (c .reader .stage) ≡ true → checkedWith c [] ≡ accepted span → A
 unfolding checkedWith yetToCome toCome upToRefused answerFrom
 refused-line {A} c span h = go (c .reader .stage) h
   where
-    go : (s : sheets.Stage) → streamed.isRefused s ≡ true → spanned (c .span) (toCome s (linesAfter (begunIn (c .reader)) [])) ≡ accepted span → A
+    go : (s : sheets.Stage) → stages.isRefused s ≡ true → spanned (c .span) (toCome s (linesAfter (begunIn (c .reader)) [])) ≡ accepted span → A
     go sheets.Stage.Heading e p = never e
     go (sheets.Stage.FirstRow columns) e p = never e
     go (sheets.Stage.LaterRows columns last n) e p = never e
     go (sheets.Stage.Refused r) e p = never (sym (ap isRefused p))
 
 -- and the rest of the file changes nothing
-pub samples-cut : (h : Held) (chunk : List ℕ) (c : SampleCheck) (t : Tally) → FedSamples h chunk c → t ≡ talliedOf (h .tally) chunk → streamed.isRefused (c .reader .stage) ≡ true
+pub samples-cut : (h : Held) (chunk : List ℕ) (c : SampleCheck) (t : Tally) → FedSamples h chunk c → t ≡ talliedOf (h .tally) chunk → stages.isRefused (c .reader .stage) ≡ true
     → EntersSamples h chunk (record { stage = JudgeStage.Judged; held = withSamples h c t })
 unfolding EntersSamples
 samples-cut h chunk c t fed is cut g w o =

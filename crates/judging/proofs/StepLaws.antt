@@ -10,7 +10,7 @@ use Rattle.rules.proofs.Tests.{never}
 use Rattle.intake.specs.declared.tally.Tally.{Tally}
 use Rattle.intake.specs.Stations.{stationWith}
 use Rattle.intake.specs.Tally.{noBytes, talliedOf}
-use Rattle.samples.specs.ToCome.{placed}
+use Rattle.sheet_stages.specs.ToCome.{placed}
 use Rattle.samples.specs.Streamed.{sheetSpan, checkedWith}
 use Rattle.exchange.specs.declared.action.Why.{Why}
 use Rattle.exchange.specs.declared.event.Event.{Event}

@@ -11,7 +11,7 @@ use Rattle.rules.specs.StationFile.{stationFile}
 use Rattle.intake.specs.Stations.{stationWith}
 use Rattle.intake.specs.Tally.{noBytes, talliedOf}
 use Rattle.samples.specs.declared.check.Span.{Span}
-use Rattle.samples.specs.ToCome.{mostPlace, placed}
+use Rattle.sheet_stages.specs.ToCome.{mostPlace, placed}
 use Rattle.samples.specs.Streamed.{sheetSpan, checkedWith}
 use Rattle.exchange.specs.declared.event.Event.{Event}
 use Rattle.exchange.specs.Existing.{isFailed}

@@ -12,7 +12,7 @@ use Rattle.rules.proofs.Tests.{never, both}
 use Rattle.intake.specs.declared.tally.Tally.{Tally}
 use Rattle.intake.specs.Tally.{noBytes, talliedOf, sameTally}
 use Rattle.intake.proofs.TallyLaws.{tallied-append}
-use Rattle.samples.specs.ToCome.{mostPlace}
+use Rattle.sheet_stages.specs.ToCome.{mostPlace}
 use Rattle.simulation.specs.declared.state.Simulation.{Simulation}
 use Rattle.simulation.specs.declared.state.Wants.{Wants}
 use Rattle.exchange.specs.declared.action.Why.{Why}

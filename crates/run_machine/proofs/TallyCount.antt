@@ -9,7 +9,7 @@ use lib.ListN.{length, length-append}
 use Rattle.rules.proofs.Tests.{and-true}
 use Rattle.intake.specs.declared.tally.Tally.{Tally}
 use Rattle.intake.specs.Tally.{modulus, noBytes, withByte, talliedOf, sameTally}
-use Rattle.samples.specs.ToCome.{mostPlace}
+use Rattle.sheet_stages.specs.ToCome.{mostPlace}
 
 -- a count of fewer than 2^64 bytes does not wrap
 one-more : (n m : ℕ) → n + suc m ≤ mostPlace → (n + 1) % modulus ≡ n + 1

@@ -9,18 +9,19 @@ use Rattle.rules.specs.declared.samples.Sample.{Sample}
 use Rattle.rules.specs.Answers.{Answer, accepted, refused, refusalOf, judged, _>>=_, _>>_}
 use Rattle.rules.specs.SampleFile.{sampleFile}
 use Rattle.rules.specs.Sizing.{sampleCheck}
-use Rattle.samples.specs.declared.stage.Found.{Found}
+use Rattle.sheet_stages.specs.declared.stage.Found.{Found}
 use Rattle.samples.specs.declared.check.Span.{Span}
-use Rattle.samples.specs.ToCome.{mostPlace, placed, RowsRead, fileRows, rowFirst}
-use Rattle.samples.specs.declared.reader.SampleReader.{SampleReader}
-use Rattle.samples.specs.declared.reader.Pulled.{Pulled}
-use Rattle.samples.specs.declared.reader.Ending.{Ending}
+use Rattle.sheet_stages.specs.ToCome.{mostPlace, placed, RowsRead, fileRows, rowFirst, isRow}
+use Rattle.sample_rows.specs.declared.reader.SampleReader.{SampleReader}
+use Rattle.sample_rows.specs.declared.reader.Pulled.{Pulled}
+use Rattle.sample_rows.specs.declared.reader.Ending.{Ending}
 use Rattle.samples.specs.declared.check.SampleCheck.{SampleCheck}
 use Rattle.samples.specs.declared.check.Checked.{Checked}
 use Rattle.rules.specs.declared.answers.Refusal.{Refusal}
-use Rattle.samples.specs.Streamed.{yetToCome, isRow, PulledRight, endingOf, lastTime, spanOf, sheetSpan, oneMore, spanAfter, spanned, checkedWith, checkedOf}
-use Rattle.samples.proofs.PlaceBound.{stays-bind, file-place}
-use Rattle.samples.proofs.LineLaws.{file-answer}
+use Rattle.sample_rows.specs.Streamed.{yetToCome, PulledRight, endingOf}
+use Rattle.samples.specs.Streamed.{lastTime, spanOf, sheetSpan, oneMore, spanAfter, spanned, checkedWith, checkedOf}
+use Rattle.sheet_stages.proofs.PlaceBound.{stays-bind, file-place}
+use Rattle.sample_rows.proofs.LineLaws.{file-answer}
 
 -- a row that was found is counted before those that follow it
 pub found-counted : (s : Span) (f : Found) (r : RowsRead) → spanned s (rowFirst f r) ≡ spanned (oneMore s f) r

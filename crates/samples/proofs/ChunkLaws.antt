@@ -7,14 +7,15 @@ use lib.ListN.{length, drop}
 use lib.Seq.{drop-length}
 use Rattle.rules.specs.declared.samples.Sample.{Sample}
 use Rattle.rules.proofs.Tests.{never}
-use Rattle.samples.specs.declared.stage.Stage.{Stage}
-use Rattle.samples.specs.declared.stage.Found.{Found}
-use Rattle.samples.specs.declared.reader.SampleReader.{SampleReader}
+use Rattle.sheet_stages.specs.declared.stage.Stage.{Stage}
+use Rattle.sheet_stages.specs.declared.stage.Found.{Found}
+use Rattle.sample_rows.specs.declared.reader.SampleReader.{SampleReader}
 use Rattle.samples.specs.declared.check.SampleCheck.{SampleCheck}
-use Rattle.samples.specs.ToCome.{toCome, rowFirst}
-use Rattle.samples.specs.Streamed.{yetToCome, isRow, PulledRight, checkedWith, linesAfter, begunIn, spanned, isRefused}
+use Rattle.sheet_stages.specs.ToCome.{toCome, rowFirst, isRow, isRefused}
+use Rattle.sample_rows.specs.Streamed.{yetToCome, PulledRight, linesAfter, begunIn}
+use Rattle.samples.specs.Streamed.{checkedWith, spanned}
 use Rattle.samples.specs.Chunks.{joined, Feeds, Pulls, leftAt, rowsThen}
-use Rattle.samples.proofs.StageLaws.{refused-read}
+use Rattle.sheet_stages.proofs.StageLaws.{refused-read}
 
 -- what a call of `feed` owes, in its contract's words
 abbrev pub FedRight : SampleCheck → List ℕ → SampleCheck → Type 0

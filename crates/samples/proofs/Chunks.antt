@@ -14,16 +14,17 @@ use Rattle.rules.specs.declared.samples.Sample.{Sample}
 use Rattle.rules.specs.Answers.{judged}
 use Rattle.rules.specs.SampleFile.{sampleFile}
 use Rattle.rules.specs.Sizing.{sampleCheck}
-use Rattle.samples.specs.declared.reader.SampleReader.{SampleReader}
-use Rattle.samples.specs.declared.reader.Pulled.{Pulled}
-use Rattle.samples.specs.declared.reader.Ending.{Ending}
+use Rattle.sample_rows.specs.declared.reader.SampleReader.{SampleReader}
+use Rattle.sample_rows.specs.declared.reader.Pulled.{Pulled}
+use Rattle.sample_rows.specs.declared.reader.Ending.{Ending}
 use Rattle.samples.specs.declared.check.SampleCheck.{SampleCheck}
 use Rattle.samples.specs.declared.check.Checked.{Checked}
-use Rattle.samples.specs.ToCome.{mostPlace, placed, fileRows, answerOf}
-use Rattle.samples.specs.Streamed.{yetToCome, PulledRight, endingOf, sheetSpan, checkedWith, checkedOf, isRefused}
+use Rattle.sheet_stages.specs.ToCome.{mostPlace, placed, fileRows, answerOf, isRefused}
+use Rattle.sample_rows.specs.Streamed.{yetToCome, PulledRight, endingOf}
+use Rattle.samples.specs.Streamed.{sheetSpan, checkedWith, checkedOf}
 use Rattle.samples.specs.Chunks.{joined, Feeds, Pulls, leftAt, rowsThen}
-use Rattle.samples.proofs.PlaceBound.{file-place}
-use Rattle.samples.proofs.LineLaws.{file-answer}
+use Rattle.sheet_stages.proofs.PlaceBound.{file-place}
+use Rattle.sample_rows.proofs.LineLaws.{file-answer}
 use Rattle.samples.proofs.CheckLaws.{span-place, span-judged}
 use Rattle.samples.proofs.ChunkLaws.{FedRight, feeds-right, refused-for-good, left-next, pulls-right}
 use Rattle.samples.proofs.check.check.Reads as check-reads
@@ -34,12 +35,12 @@ use Rattle.samples.proofs.check.finish.Reads as finish-reads
 use Rattle.samples.proofs.check.finish.Kinds as finish-kinds
 use Rattle.samples.proofs.check.is_refused.Reads as is-refused-reads
 use Rattle.samples.proofs.check.is_refused.Kinds as is-refused-kinds
-use Rattle.samples.proofs.reader.reader.Reads as reader-reads
-use Rattle.samples.proofs.reader.reader.Kinds as reader-kinds
-use Rattle.samples.proofs.reader.pull.Reads as pull-reads
-use Rattle.samples.proofs.reader.pull.Kinds as pull-kinds
-use Rattle.samples.proofs.reader.end.Reads as end-reads
-use Rattle.samples.proofs.reader.end.Kinds as end-kinds
+use Rattle.sample_rows.proofs.reader.reader.Reads as reader-reads
+use Rattle.sample_rows.proofs.reader.reader.Kinds as reader-kinds
+use Rattle.sample_rows.proofs.reader.pull.Reads as pull-reads
+use Rattle.sample_rows.proofs.reader.pull.Kinds as pull-kinds
+use Rattle.sample_rows.proofs.reader.end.Reads as end-reads
+use Rattle.sample_rows.proofs.reader.end.Kinds as end-kinds
 
 -- ---- calls of which only what their contracts ensure is known
 

@@ -1,16 +1,5 @@
--- Laws of lines, stages and places, of the rows in force, and the theorems over every list of chunks.
-pub mod UpToRefused
-pub mod LineLaws
-pub mod UsualNext
-pub mod PlaceLaws
-pub mod StageLaws
-pub mod PlaceBound
+-- Laws of the check, and the theorems over every list of chunks.
 pub mod CheckLaws
 pub mod ChunkLaws
 pub mod Chunks
-pub mod HeldLaws
-pub mod EndLaws
-pub mod FillLaws
 pub mod UsualRows
-pub mod UsualSeconds
-pub mod RowsRight

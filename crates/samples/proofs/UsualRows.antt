@@ -5,14 +5,16 @@ use mathlib.Core.List.{List, [], _++_}
 use native.Mathlib.Omega.{arith}
 use lib.ListN.{drop}
 use Rattle.rules.specs.declared.samples.Sample.{Sample}
-use Rattle.sheet.specs.declared.headings.Columns.{Columns}
-use Rattle.samples.specs.declared.stage.Stage.{Stage}
-use Rattle.samples.specs.declared.stage.Found.{Found}
+use Rattle.sheet_headings.specs.declared.headings.Columns.{Columns}
+use Rattle.sheet_stages.specs.declared.stage.Stage.{Stage}
+use Rattle.sheet_stages.specs.declared.stage.Found.{Found}
 use Rattle.samples.specs.declared.check.Span.{Span}
-use Rattle.samples.specs.ToCome.{mostPlace, toCome}
-use Rattle.samples.specs.Streamed.{linesAfter, UsualLater, spanned, CountedOn}
+use Rattle.sheet_stages.specs.ToCome.{mostPlace, toCome}
+use Rattle.usual_rows.specs.Usual.{UsualLater}
+use Rattle.sample_rows.specs.Streamed.{linesAfter}
+use Rattle.samples.specs.Streamed.{spanned, CountedOn}
 use Rattle.samples.proofs.CheckLaws.{found-counted}
-use Rattle.samples.proofs.UsualNext.{usual-on}
+use Rattle.sample_rows.proofs.UsualNext.{usual-on}
 
 -- no row was counted yet
 pub none-counted : (stage : Stage) (begun : List ℕ) (span : Span) (chunk : List ℕ) (at : ℕ) → CountedOn stage begun span chunk at (record { stage = stage; span = span; next = at })

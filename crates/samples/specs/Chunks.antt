@@ -5,11 +5,11 @@ use mathlib.Core.Path.{_≡_}
 use mathlib.Core.List.{List, [], _∷_, _++_}
 use lib.ListN.{drop}
 use Rattle.rules.specs.declared.samples.Sample.{Sample}
-use Rattle.samples.specs.declared.stage.Found.{Found}
-use Rattle.samples.specs.declared.reader.SampleReader.{SampleReader}
-use Rattle.samples.specs.declared.reader.Pulled.{Pulled}
+use Rattle.sheet_stages.specs.declared.stage.Found.{Found}
+use Rattle.sample_rows.specs.declared.reader.SampleReader.{SampleReader}
+use Rattle.sample_rows.specs.declared.reader.Pulled.{Pulled}
 use Rattle.samples.specs.declared.check.SampleCheck.{SampleCheck}
-use Rattle.samples.specs.ToCome.{RowsRead}
+use Rattle.sheet_stages.specs.ToCome.{RowsRead}
 
 -- the file: its chunks one after the other
 unfoldable pub joined : List (List ℕ) → List ℕ

@@ -1,5 +1,3 @@
--- What is still to come of a sample file, the file in chunks, and what each second is handed.
-pub mod ToCome
+-- What the check of a sample file comes to, and the file in chunks.
 pub mod Streamed
 pub mod Chunks
-pub mod Held

@@ -1,100 +1,20 @@
--- The sample file in chunks: what a reader, and a check, that hold the beginning of a file come to with any rest of it.
+-- The sample file in chunks: what a check that holds the beginning of a file comes to with any rest of it.
 -- What a call owes is stated over every rest, so that calls chain: `proofs/Chunks.antt` has the theorem over lists of chunks.
-use Prim.Native.Nat.{ℕ, suc, min, _≤_, _<_}
+use Prim.Native.Nat.{ℕ, suc, min, _≤_}
 use mathlib.Core.Path.{_≡_}
-use mathlib.Core.Bool.{Bool, true, false}
 use mathlib.Core.List.{List, [], _∷_, _++_}
-use lib.ListN.{length, take, drop}
-use Rattle.bytes.specs.Bytes.{indexOf}
+use lib.ListN.{length, drop}
 use Rattle.rules.specs.declared.samples.Sample.{Sample}
-use Rattle.rules.specs.Bytes.{LF, parts}
-use Rattle.rules.specs.Lines.{Line, withoutCR, linesOf}
 use Rattle.rules.specs.Answers.{Answer, accepted, refusalOf, _>>=_, _>>_}
 use Rattle.rules.specs.SampleFile.{sampleFile}
-use Rattle.sheet.specs.declared.headings.Columns.{Columns}
-use Rattle.sheet.specs.declared.usual.Usual.{Usual}
-use Rattle.sheet.specs.Usual.{UsualRight}
-use Rattle.samples.specs.declared.stage.Stage.{Stage}
-use Rattle.samples.specs.declared.stage.Found.{Found}
-use Rattle.samples.specs.declared.reader.SampleReader.{SampleReader}
-use Rattle.samples.specs.declared.reader.LineTurn.{LineTurn}
-use Rattle.samples.specs.declared.reader.NextRow.{NextRow}
-use Rattle.samples.specs.declared.reader.Pulled.{Pulled}
-use Rattle.samples.specs.declared.reader.Ending.{Ending}
+use Rattle.sheet_stages.specs.declared.stage.Stage.{Stage}
+use Rattle.sheet_stages.specs.declared.stage.Found.{Found}
 use Rattle.samples.specs.declared.check.Span.{Span}
 use Rattle.samples.specs.declared.check.SampleCheck.{SampleCheck}
 use Rattle.samples.specs.declared.check.RowsCounted.{RowsCounted}
 use Rattle.samples.specs.declared.check.Checked.{Checked}
-use Rattle.samples.specs.ToCome.{mostPlace, RowsRead, toCome, rowFirst, allRead}
-
--- ---- lines
-
--- "A line ends at LF (one CR just before it is dropped) or at the end of the file": its text
-abbrev pub textOf : Bool → List ℕ → List ℕ
-textOf true s = withoutCR s
-textOf false s = s
-
--- bytes in front of the first part
-abbrev pub begunWith : List ℕ → List (List ℕ) → List (List ℕ)
-begunWith s [] = s ∷ []
-begunWith s (p ∷ ps) = (s ++ p) ∷ ps
-
--- the lines of a file, of which the bytes `begun` of a line have been read and `rest` is left
-unfoldable pub linesAfter : List ℕ → List ℕ → List Line
-linesAfter begun rest = linesOf (begunWith begun (parts LF rest))
-
--- ---- the reader of rows
-
--- the bytes that it holds, of a line that has begun
-abbrev pub begunIn : SampleReader → List ℕ
-begunIn m = take (m .len) (m .line)
-
--- the rows that the reader has not handed over yet, up to the first refused line, and that refusal, where `rest` is left of the file
-unfoldable pub yetToCome : SampleReader → List ℕ → RowsRead
-yetToCome m rest = toCome (m .stage) (linesAfter (begunIn m) rest)
-
-abbrev pub isRow : Found → Bool
-isRow (Found.Row x) = true
-isRow Found.Nothing = false
-
--- what the line from a place of a chunk on owes, where the bytes `begun` of it came before
-pub record LineRight (stage : Stage) (begun chunk : List ℕ) (at : ℕ) (r : LineTurn) : Type 0 where
-  pub line : r .ended ≡ true → (rest : List ℕ) → toCome stage (linesAfter begun (drop at chunk ++ rest)) ≡ rowFirst (r .found) (toCome (r .stage) (linesAfter [] (drop (r .next) chunk ++ rest)))
-  pub onward : r .ended ≡ true → at < r .next
-  pub within : r .next ≤ length chunk
-  pub further : r .ended ≡ false → indexOf LF (drop at chunk) ≡ length (drop at chunk)
-
--- the usual row from a place of a chunk on, later than the last
-pub record UsualLater (columns : Columns) (last : ℕ) (chunk : List ℕ) (at : ℕ) (x : Sample) (next : ℕ) : Type 0 where
-  pub later : last < x .at
-  pub right : UsualRight columns chunk at x next
-
-abbrev pub usualLater : Columns → ℕ → List ℕ → ℕ → Usual → Type 0
-usualLater columns last chunk at (Usual.Row x next) = UsualLater columns last chunk at x next
-usualLater columns last chunk at Usual.Other = Unit {0}
-
--- what the next row of the lines that end in a chunk owes; what is left has no line that ends
-pub record NextRight (stage : Stage) (line : List ℕ) (len : ℕ) (chunk : List ℕ) (at : ℕ) (r : NextRow) : Type 0 where
-  pub rows : (rest : List ℕ) → toCome stage (linesAfter (take len line) (drop at chunk ++ rest)) ≡ rowFirst (r .found) (toCome (r .stage) (linesAfter (take (r .len) line) (drop (r .next) chunk ++ rest)))
-  pub within : r .next ≤ length chunk
-  pub ahead : min at (length chunk) ≤ r .next
-  pub onward : isRow (r .found) ≡ true → at < r .next
-  pub further : isRow (r .found) ≡ false → indexOf LF (drop (r .next) chunk) ≡ length (drop (r .next) chunk)
-
--- what pulling a row out of a chunk from a place on owes
-pub record PulledRight (m : SampleReader) (chunk : List ℕ) (at : ℕ) (r : Pulled) : Type 0 where
-  pub rows : (rest : List ℕ) → yetToCome m (drop at chunk ++ rest) ≡ rowFirst (r .found) (yetToCome (r .reader) (drop (r .next) chunk ++ rest))
-  pub within : r .next ≤ length chunk
-  pub onward : isRow (r .found) ≡ true → at < r .next
-  pub exhausted : isRow (r .found) ≡ false → r .next ≡ length chunk
-
--- what the end of the file gives
-abbrev pub endingOf : Ending → RowsRead
-endingOf (Ending.LastRow x) = allRead (x ∷ [])
-endingOf Ending.NoRow = allRead []
-endingOf (Ending.Refused r) = record { rows = []; verdict = refusalOf r }
-
--- ---- the check
+use Rattle.sheet_stages.specs.ToCome.{mostPlace, RowsRead, toCome}
+use Rattle.sample_rows.specs.Streamed.{linesAfter, yetToCome}
 
 -- the time of the last of these rows, and `at` where there is none
 unfoldable pub lastTime : ℕ → List Sample → ℕ
@@ -136,10 +56,3 @@ pub record CountedOn (stage : Stage) (begun : List ℕ) (span : Span) (chunk : L
 abbrev pub checkedOf : Checked → Answer Span
 checkedOf (Checked.Accepted s) = accepted s
 checkedOf (Checked.Refused r) = refusalOf r
-
--- a line was refused, so that no rest of the file changes the answer
-abbrev pub isRefused : Stage → Bool
-isRefused Stage.Heading = false
-isRefused (Stage.FirstRow columns) = false
-isRefused (Stage.LaterRows columns last n) = false
-isRefused (Stage.Refused r) = true

@@ -3,21 +3,22 @@ ghost use mathlib.Core.Path.{_≡_};
 ghost use Prim.Native.Nat.{ℕ};
 ghost use mathlib.Core.List.{List, [], _++_};
 ghost use lib.ListN.{take};
-ghost use Rattle.samples.specs.ToCome.{placed};
-ghost use Rattle.samples.specs.Streamed.{oneMore, CountedOn, sheetSpan, checkedWith, checkedOf, isRefused};
-use crate::reader::Ending;
-use crate::reader::SampleReader;
-use crate::reader::end;
-use crate::reader::kept;
-use crate::reader::next_row;
-use crate::reader::reader;
-use crate::reader::usual_later;
-use crate::stage::Found;
-use crate::stage::Stage;
-use crate::stage::next_line;
+ghost use Rattle.sheet_stages.specs.ToCome.{placed, isRefused};
+ghost use Rattle.samples.specs.Streamed.{oneMore, CountedOn, sheetSpan, checkedWith, checkedOf};
 use rules::answers::Refusal;
-use sheet::headings::Columns;
-use sheet::usual::Usual;
+use sample_rows::reader::Ending;
+use sample_rows::reader::SampleReader;
+use sample_rows::reader::end;
+use sample_rows::reader::kept;
+use sample_rows::reader::next_row;
+use sample_rows::reader::reader;
+use sheet_headings::headings::Columns;
+use sheet_stages::stage::Found;
+use sheet_stages::stage::Stage;
+use sheet_stages::stage::line_refused;
+use sheet_stages::stage::next_line;
+use usual_rows::usual::Usual;
+use usual_rows::usual::usual_later;
 
 // How many rows were accepted, and the time of the last.
 pub struct Span {
@@ -173,18 +174,6 @@ pub fn finish(check: SampleCheck) -> Checked
         Ending::LastRow(row) => Checked::Accepted(counted(span, Found::Row(row))),
         Ending::NoRow => Checked::Accepted(span),
         Ending::Refused(refusal) => Checked::Refused(refusal),
-    }
-}
-
-// Whether the lines so far came to a refusal.
-pub(crate) fn line_refused(stage: Stage) -> bool
-    ensures { λ r. ⌜ r ≡ isRefused stage ⌝ }
-{
-    match stage {
-        Stage::Heading => false,
-        Stage::FirstRow(_) => false,
-        Stage::LaterRows(_, _, _) => false,
-        Stage::Refused(_) => true,
     }
 }
 

@@ -1,14 +1,5 @@
--- Laws of cells, numbers, headings and rows.
-pub mod PartsAt
+-- Laws of numbers and rows.
 pub mod DigitLaws
 pub mod PowerLaws
-pub mod CellLaws
-pub mod HeadingLaws
-pub mod ColumnsRead
-pub mod HeadingLineLaws
 pub mod RowLaws
 pub mod RowCells
-pub mod Least
-pub mod LineEnd
-pub mod UsualLaws
-pub mod PowersLaws

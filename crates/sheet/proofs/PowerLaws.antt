@@ -17,7 +17,7 @@ use Rattle.rules.specs.Bytes.{point, isDigit, allDigits, digits, valueFrom, val
 use Rattle.rules.specs.SampleFile.{powerForm, powerValue}
 use Rattle.sheet.specs.declared.numbers.Digits.{Digits}
 use Rattle.sheet.specs.Digits.{formed}
-use Rattle.sheet.proofs.PartsAt.{index-le, part-last, part-first}
+use Rattle.sheet_headings.proofs.PartsAt.{index-le, part-last, part-first}
 
 and-false : (a : Bool) → a && false ≡ false
 and-false true = refl

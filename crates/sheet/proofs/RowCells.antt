@@ -12,12 +12,12 @@ use Rattle.rules.specs.Bytes.{comma, parts}
 use Rattle.rules.specs.Lines.{cellsOf}
 use Rattle.rules.specs.Answers.{Answer, accepted, refused, _>>=_}
 use Rattle.rules.specs.SampleFile.{sampleSheet, rowValues, cellValues}
-use Rattle.sheet.specs.declared.headings.Columns.{Columns}
-use Rattle.sheet.specs.Headings.{columnsOf}
-use Rattle.sheet.specs.Cells.{cellFrom}
+use Rattle.sheet_headings.specs.declared.headings.Columns.{Columns}
+use Rattle.sheet_headings.specs.Headings.{columnsOf}
+use Rattle.sheet_headings.specs.Cells.{cellFrom}
 use Rattle.sheet.specs.Rows.{rowIn, rowOfValues, rowOfCells}
-use Rattle.sheet.proofs.PartsAt.{index-le, part-first, part-last}
-use Rattle.sheet.proofs.CellLaws.{cell-within, cell-first, cell-last}
+use Rattle.sheet_headings.proofs.PartsAt.{index-le, part-first, part-last}
+use Rattle.sheet_headings.proofs.CellLaws.{cell-within, cell-first, cell-last}
 
 -- there is always a part
 some-part : (c : ℕ) (s : List ℕ) → 0 < length (parts c s)

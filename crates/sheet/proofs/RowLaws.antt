@@ -1,6 +1,6 @@
 -- The cells of a row, left to right, and the values under their headings. Assumes nothing.
 use Prim.Native.Nat.{ℕ, _≤_, _<_}
-use mathlib.Core.Path.{_≡_, refl}
+use mathlib.Core.Path.{_≡_, refl, ap, subst, _∙_}
 use mathlib.Core.List.{List, [], _∷_}
 use native.Mathlib.Omega.{arith}
 use types.Run.{OneOf, miss}
@@ -10,12 +10,12 @@ use Rattle.rules.specs.declared.samples.Sample.{Sample}
 use Rattle.rules.specs.Numbers.{tab}
 use Rattle.rules.specs.Answers.{Answer, accepted, refused, refusalOf, _>>=_}
 use Rattle.rules.specs.SampleFile.{sampleSheet, cell, cellValues, valueUnder}
-use Rattle.sheet.specs.declared.headings.Columns.{Columns}
+use Rattle.sheet_headings.specs.declared.headings.Columns.{Columns}
 use Rattle.sheet.specs.declared.numbers.CellValue.{CellValue}
 use Rattle.sheet.specs.declared.numbers.CellValue.the-variants.{Value, Malformed, OverLimit}
-use Rattle.sheet.specs.Headings.{columnsOf}
+use Rattle.sheet_headings.specs.Headings.{columnsOf}
 use Rattle.sheet.specs.Cells.{cellOf}
-use Rattle.sheet.specs.Rows.{cellRefusal, rowOfValues, rowOfCells}
+use Rattle.sheet.specs.Rows.{cellRefusal, sampleUnder, rowOfValues, rowOfCells}
 use Rattle.sheet.proofs.numbers.CellValue.{the-type}
 
 -- ---- the value of the first column that has a name other than the time's
@@ -45,9 +45,9 @@ module _ (name : ℕ) (c : Columns) (time x y z : ℕ) (power : 0 < name) where
       unfolding valueUnder
       under-none d = rw (ne-eqb name 0 no-time, ne-eqb name (c .second) a, ne-eqb name (c .third) b, ne-eqb name (c .fourth) d)
 
--- ---- 20, of the values
+-- ---- the values of a row, each under its heading
 
-module _ (c : Columns) (line at x y z load solar sheddable : ℕ) where
+module _ (c : Columns) (at x y z : ℕ) where
   abbrev vs : List ℕ
   vs = at ∷ x ∷ y ∷ z ∷ []
 
@@ -55,15 +55,21 @@ module _ (c : Columns) (line at x y z load solar sheddable : ℕ) where
   unfolding valueUnder
   time-under = refl
 
-  module _ (l : load ≡ valueUnder 1 (columnsOf c) vs) (s : sheddable ≡ valueUnder 3 (columnsOf c) vs) where
-    pub above-load : load < sheddable → refused 20 line ≡ rowOfValues c line vs
-    unfolding rowOfValues tab sampleSheet
-    above-load h = rw (← l, ← s, lt-leb sheddable load h)
+  pub under-headings : (load solar sheddable : ℕ) → load ≡ valueUnder 1 (columnsOf c) vs → solar ≡ valueUnder 2 (columnsOf c) vs → sheddable ≡ valueUnder 3 (columnsOf c) vs
+      → record { at = at; load = load; solar = solar; sheddable = sheddable } ≡ sampleUnder c vs
+  unfolding sampleUnder tab
+  under-headings load solar sheddable l o s = rw (l, o, s, time-under)
 
-    pub row-whole : solar ≡ valueUnder 2 (columnsOf c) vs → sheddable ≤ load
-        → accepted (record { at = at; load = load; solar = solar; sheddable = sheddable }) ≡ rowOfValues c line vs
-    unfolding rowOfValues tab sampleSheet
-    row-whole o h = rw (← l, ← s, ← o, le-leb sheddable load h, time-under)
+-- ---- 20, of the values
+
+module _ (c : Columns) (line : ℕ) (vs : List ℕ) (r : Sample) (is : r ≡ sampleUnder c vs) where
+  pub above-load : r .load < r .sheddable → refused 20 line ≡ rowOfValues c line vs
+  unfolding rowOfValues sampleUnder tab sampleSheet
+  above-load h = rw (lt-leb _ _ (subst (λ (x : Sample). x .load < x .sheddable) is h))
+
+  pub row-whole : r .sheddable ≤ r .load → accepted r ≡ rowOfValues c line vs
+  unfolding rowOfValues sampleUnder tab sampleSheet
+  row-whole h = ap accepted is ∙ rw (le-leb _ _ (subst (λ (x : Sample). x .sheddable ≤ x .load) is h))
 
 -- ---- 18 and 19, of the cells
 

@@ -8,9 +8,9 @@ use Rattle.rules.specs.Numbers.{tab}
 use Rattle.rules.specs.declared.answers.Refusal.{Refusal}
 use Rattle.rules.specs.SampleFile.{sampleSheet, cellValues, valueUnder, agreeing, rowValues, sampleOf}
 use Rattle.sheet.specs.declared.numbers.CellValue.{CellValue}
-use Rattle.sheet.specs.declared.headings.Columns.{Columns}
+use Rattle.sheet_headings.specs.declared.headings.Columns.{Columns}
 use Rattle.sheet.specs.declared.rows.RowRead.{RowRead}
-use Rattle.sheet.specs.Headings.{columnsOf}
+use Rattle.sheet_headings.specs.Headings.{columnsOf}
 
 abbrev pub rowOf : RowRead → Answer Sample
 rowOf (RowRead.Values x) = accepted x
@@ -28,7 +28,11 @@ rowIn columns line l = do
   values ← rowValues sampleSheet (columnsOf columns) line l
   accepted (sampleOf values)
 
--- the same of the values of its cells, in the file's order
+-- the values of its cells, in the file's order, each under its heading
+unfoldable pub sampleUnder : Columns → List ℕ → Sample
+sampleUnder columns vs = sampleOf (tab 4 (λ name. valueUnder name (columnsOf columns) vs))
+
+-- the same of these values
 unfoldable pub rowOfValues : Columns → ℕ → List ℕ → Answer Sample
 rowOfValues columns line vs = do
   values ← agreeing sampleSheet line (tab 4 (λ name. valueUnder name (columnsOf columns) vs))

@@ -1,6 +1,3 @@
-// A line of the sample file: cells, headings, rows.
-pub mod cells;
-pub mod headings;
+// A row of the sample file: the numbers of its cells, and the row.
 pub mod numbers;
 pub mod rows;
-pub mod usual;

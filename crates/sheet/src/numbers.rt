@@ -54,7 +54,7 @@ fn digits_of(part: &[u8], most: usize) -> Digits
 }
 
 // What the last of so many decimals of a kW is worth, in W.
-pub(crate) fn last_worth(decimals: usize) -> u32
+pub fn last_worth(decimals: usize) -> u32
     ensures { λ r. ⌜ (r ≡ 10 ^ (3 - decimals)) × (r ≤ 1000) ⌝ }
 {
     match decimals {

@@ -3,15 +3,15 @@ ghost use mathlib.Core.Path.{_≡_};
 ghost use Prim.Native.Nat.{ℕ, _<_};
 ghost use mathlib.Core.List.{[], _∷_};
 ghost use Rattle.rules.specs.SampleFile.{valueUnder};
-ghost use Rattle.sheet.specs.Headings.{columnsOf};
-ghost use Rattle.sheet.specs.Rows.{rowOf, rowIn, rowOfCells, rowOfValues, cellRefusal};
-use crate::cells::cell_at;
-use crate::headings::Columns;
+ghost use Rattle.sheet_headings.specs.Headings.{columnsOf};
+ghost use Rattle.sheet.specs.Rows.{rowOf, rowIn, rowOfCells, rowOfValues, sampleUnder, cellRefusal};
 use crate::numbers::CellValue;
 use crate::numbers::cell_under;
 use rules::answers::Refusal;
 use rules::limits::MOST_LINE;
 use rules::samples::Sample;
+use sheet_headings::cells::cell_at;
+use sheet_headings::headings::Columns;
 
 pub enum RowRead {
     Values(Sample),
@@ -19,10 +19,10 @@ pub enum RowRead {
 }
 
 // The values of the columns after the time's, in the file's order.
-pub(crate) struct Powers {
-    pub(crate) second: u32,
-    pub(crate) third: u32,
-    pub(crate) fourth: u32,
+pub struct Powers {
+    pub second: u32,
+    pub third: u32,
+    pub fourth: u32,
 }
 
 // The refusal of a cell that has no value.
@@ -37,7 +37,7 @@ fn refusal_of(line: u64, cell: CellValue) -> Refusal
 }
 
 // The value of the first column after the time's that has this name.
-pub(crate) fn value_under(name: u8, columns: Columns, powers: Powers) -> u32
+fn value_under(name: u8, columns: Columns, powers: Powers) -> u32
     ensures { λ r. ⌜ ((time : ℕ) → 0 < name → r ≡ valueUnder name (columnsOf columns) (time ∷ powers .second ∷ powers .third ∷ powers .fourth ∷ [])) ⌝ }
 {
     if name == columns.second {
@@ -52,21 +52,27 @@ pub(crate) fn value_under(name: u8, columns: Columns, powers: Powers) -> u32
     0
 }
 
+// The row of a time and three powers, each under its heading.
+pub fn sample_under(columns: Columns, at: u32, powers: Powers) -> Sample
+    ensures { λ r. ⌜ r ≡ sampleUnder columns (at ∷ powers .second ∷ powers .third ∷ powers .fourth ∷ []) ⌝ }
+{
+    Sample {
+        at,
+        load: value_under(1, columns, powers),
+        solar: value_under(2, columns, powers),
+        sheddable: value_under(3, columns, powers),
+    }
+}
+
 // 20: "sheddable load above load".
 fn agreeing(line: u64, columns: Columns, at: u32, powers: Powers) -> RowRead
     ensures { λ r. ⌜ rowOf r ≡ rowOfValues columns line (at ∷ powers .second ∷ powers .third ∷ powers .fourth ∷ []) ⌝ }
 {
-    let load = value_under(1, columns, powers);
-    let sheddable = value_under(3, columns, powers);
-    if load < sheddable {
+    let sample = sample_under(columns, at, powers);
+    if sample.load < sample.sheddable {
         return RowRead::Refused(Refusal::SheddableAboveLoad(line));
     }
-    RowRead::Values(Sample {
-        at,
-        load,
-        solar: value_under(2, columns, powers),
-        sheddable,
-    })
+    RowRead::Values(sample)
 }
 
 // "cells left to right 18 before 19".

@@ -29,7 +29,7 @@ use Rattle.intake.proofs.StationChunks as stations
 use Rattle.samples.specs.declared.check.Span.{Span}
 use Rattle.samples.specs.declared.check.SampleCheck.{SampleCheck}
 use Rattle.samples.specs.declared.check.Checked.{Checked}
-use Rattle.samples.specs.ToCome.{mostPlace}
+use Rattle.sheet_stages.specs.ToCome.{mostPlace}
 use Rattle.samples.specs.Streamed.{sheetSpan, checkedOf}
 use Rattle.samples.specs.Chunks.{joined, Feeds}
 use Rattle.samples.proofs.CheckLaws.{span-place}

@@ -17,9 +17,9 @@ use Rattle.rules.specs.Run.{inputsOf, rowsFrom, secondsAsked, runOf, shown, pri
 use Rattle.rows.specs.AnswerLine.{refusedLine}
 use Rattle.rows.specs.RowLines as lines
 use Rattle.samples.specs.declared.check.Span.{Span}
-use Rattle.samples.specs.ToCome.{placed}
+use Rattle.sheet_stages.specs.ToCome.{placed}
 use Rattle.samples.specs.Streamed.{sheetSpan, spanOf}
-use Rattle.samples.specs.Held.{heldFrom}
+use Rattle.held_inputs.specs.Held.{heldFrom}
 use Rattle.course.specs.declared.state.Course.{Course}
 use Rattle.dispatch.specs.Working.{rowsOf, runAfter}
 use Rattle.course.proofs.Started.{started-run, started-coming}

@@ -7,13 +7,14 @@ use lib.ListN.{length, take, drop, take-append-drop, length-take, length-drop}
 use lib.Seq.{drop-drop}
 use Rattle.rules.specs.declared.samples.Sample.{Sample}
 use Rattle.rules.specs.declared.answers.Refusal.{Refusal}
-use Rattle.samples.specs.declared.stage.Found.{Found}
-use Rattle.samples.specs.declared.reader.SampleReader.{SampleReader}
-use Rattle.samples.specs.declared.reader.Pulled.{Pulled}
-use Rattle.samples.specs.declared.reader.Ending.{Ending}
+use Rattle.sheet_stages.specs.declared.stage.Found.{Found}
+use Rattle.sample_rows.specs.declared.reader.SampleReader.{SampleReader}
+use Rattle.sample_rows.specs.declared.reader.Pulled.{Pulled}
+use Rattle.sample_rows.specs.declared.reader.Ending.{Ending}
 use Rattle.samples.specs.declared.check.SampleCheck.{SampleCheck}
-use Rattle.samples.specs.ToCome.{RowsRead, rowFirst, allRead}
-use Rattle.samples.specs.Streamed.{yetToCome, PulledRight, endingOf, checkedWith}
+use Rattle.sheet_stages.specs.ToCome.{RowsRead, rowFirst, allRead}
+use Rattle.sample_rows.specs.Streamed.{yetToCome, PulledRight, endingOf}
+use Rattle.samples.specs.Streamed.{checkedWith}
 use Rattle.samples.proofs.CheckLaws.{pull-ahead}
 use Rattle.test_chunks.specs.declared.Sought.{Sought}
 use Rattle.test_chunks.specs.Answers.{rowAt}

@@ -3,9 +3,9 @@ use Prim.Native.Nat.{ℕ, zero, suc}
 use mathlib.Core.List.{List, [], _∷_}
 use Rattle.rules.specs.declared.samples.Sample.{Sample}
 use Rattle.rules.specs.Answers.{Answer, accepted, refused}
-use Rattle.samples.specs.declared.stage.Found.{Found}
+use Rattle.sheet_stages.specs.declared.stage.Found.{Found}
 use Rattle.samples.specs.declared.check.Span.{Span}
-use Rattle.samples.specs.ToCome.{RowsRead}
+use Rattle.sheet_stages.specs.ToCome.{RowsRead}
 use Rattle.test_chunks.specs.declared.ChunkedAnswer.{ChunkedAnswer}
 use Rattle.test_chunks.specs.declared.ChunkedRow.{ChunkedRow}
 

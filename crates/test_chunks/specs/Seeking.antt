@@ -1,7 +1,7 @@
 -- The chunks of a file, and a row of it that is sought among the rows that come.
 use Prim.Native.Nat.{ℕ, _+_, min, max}
-use Rattle.samples.specs.declared.stage.Found.{Found}
-use Rattle.samples.specs.ToCome.{RowsRead}
+use Rattle.sheet_stages.specs.declared.stage.Found.{Found}
+use Rattle.sheet_stages.specs.ToCome.{RowsRead}
 use Rattle.test_chunks.specs.declared.Sought.{Sought}
 use Rattle.test_chunks.specs.Answers.{rowAt}
 

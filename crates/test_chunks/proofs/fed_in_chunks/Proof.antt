@@ -3,7 +3,7 @@ use Prim.Native.Nat.{_-_}
 use mathlib.Core.Path.{_≡_, sym, _∙_}
 use lib.ListN.{length, drop, drop-of-length-le}
 use borrow.Author.Needs.{needs}
-use Rattle.samples.specs.ToCome.{placed}
+use Rattle.sheet_stages.specs.ToCome.{placed}
 use Rattle.samples.specs.Streamed.{sheetSpan, checkedWith}
 use Rattle.test_chunks.proofs.ChunkedLaws.{chunk-fed}
 use Rattle.test_chunks.proofs.fed_in_chunks.Statement.{statement}

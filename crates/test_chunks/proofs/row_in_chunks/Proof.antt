@@ -5,8 +5,8 @@ use mathlib.Core.Path.{_≡_, sym, ap, _∙_}
 use native.Mathlib.Omega.{arith}
 use lib.ListN.{length, drop, drop-of-length-le}
 use borrow.Author.Needs.{needs}
-use Rattle.samples.specs.ToCome.{fileRows}
-use Rattle.samples.specs.Streamed.{yetToCome}
+use Rattle.sheet_stages.specs.ToCome.{fileRows}
+use Rattle.sample_rows.specs.Streamed.{yetToCome}
 use Rattle.test_chunks.specs.declared.Sought.{Sought}
 use Rattle.test_chunks.specs.Seeking.{chunkEnd, soughtIn}
 use Rattle.test_chunks.proofs.ChunkedLaws.{end-ahead, places, row-pulled}

@@ -5,10 +5,12 @@ use mathlib.Core.Path.{_≡_, refl, sym, ap, _∙_}
 use native.Mathlib.Omega.{arith}
 use lib.ListN.{length, drop, drop-of-length-le}
 use borrow.Author.Needs.{needs}
-use Rattle.samples.specs.declared.reader.SampleReader.{SampleReader}
+use Rattle.sample_rows.specs.declared.reader.SampleReader.{SampleReader}
 use Rattle.samples.specs.declared.check.Span.{Span}
-use Rattle.samples.specs.Streamed.{yetToCome, isRow, spanned, checkedWith}
-use Rattle.samples.proofs.LineLaws.{kept-whole, at-end-of}
+use Rattle.sheet_stages.specs.ToCome.{isRow}
+use Rattle.sample_rows.specs.Streamed.{yetToCome}
+use Rattle.samples.specs.Streamed.{spanned, checkedWith}
+use Rattle.sample_rows.proofs.LineLaws.{kept-whole, at-end-of}
 use Rattle.samples.proofs.CheckLaws.{found-counted}
 use Rattle.samples.proofs.check.feed.Statement.{statement}
 use Rattle.samples.proofs.check.feed.Tie as tie

@@ -4,8 +4,9 @@ use mathlib.Core.List.{[]}
 use native.Mathlib.Omega.{arith}
 use lib.ListN.{length}
 use borrow.Author.Needs.{needs}
-use Rattle.samples.specs.declared.stage.Stage.{Stage}
-use Rattle.samples.specs.Streamed.{UsualLater, CountedOn}
+use Rattle.sheet_stages.specs.declared.stage.Stage.{Stage}
+use Rattle.usual_rows.specs.Usual.{UsualLater}
+use Rattle.samples.specs.Streamed.{CountedOn}
 use Rattle.samples.proofs.UsualRows.{none-counted, row-counted}
 use Rattle.samples.proofs.check.usual_rows.Statement.{statement}
 use Rattle.samples.proofs.check.usual_rows.Tie as tie

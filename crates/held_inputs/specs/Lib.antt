@@ -1,0 +1,2 @@
+-- What each second is handed.
+pub mod Held

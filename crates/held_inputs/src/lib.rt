@@ -1,0 +1,3 @@
+// What each second of a run is handed, of a sample file that comes in chunks of any length.
+pub mod inputs;
+mod usual_seconds;

@@ -1,0 +1,3 @@
+-- Laws of the lines of a file that comes in pieces.
+pub mod LineLaws
+pub mod UsualNext

@@ -1,0 +1,2 @@
+-- What a reader of rows comes to with any rest of the file.
+pub mod Streamed

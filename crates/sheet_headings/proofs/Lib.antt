@@ -1,0 +1,6 @@
+-- Laws of the parts of a line, and of headings.
+pub mod PartsAt
+pub mod CellLaws
+pub mod HeadingLaws
+pub mod ColumnsRead
+pub mod HeadingLineLaws

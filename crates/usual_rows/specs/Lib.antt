@@ -1,0 +1,2 @@
+-- What reading the usual row in one pass owes.
+pub mod Usual
