@@ -1,5 +1,5 @@
 -- The checks of a file one after the other: size, table of contents, values; and those of 25. Assumes nothing.
-use Prim.Native.Nat.{ℕ, _+_, _≤_, _<_}
+use Prim.Native.Nat.{ℕ, _+_, _*_, _≤_, _<_}
 use mathlib.Core.Path.{_≡_, refl, sym, ap, _∙_}
 use mathlib.Core.Bool.{Bool, true, false, _&&_}
 use mathlib.Core.List.{List}
@@ -65,6 +65,10 @@ module _ (s : List ℕ) where
             pub contents-in-order : eqb (length s) (configsOffset (countAt s 2) + countAt s 3) ≡ true → accepted tt ≡ contentsRight s
             unfolding contentsRight
             contents-in-order e = rw (size, first, second, third, fourth, e)
+
+-- how long a file is by the counts that were read, a byte for each configuration
+pub size-by-counts : (s : List ℕ) (sets configs : ℕ) → sets ≡ countAt s 2 → configs ≡ countAt s 3 → configsOffset sets + 1 * configs ≡ configsOffset (countAt s 2) + countAt s 3
+size-by-counts s sets configs e f = let one : 1 * configs ≡ configs = omega arith in rw (one, e, f)
 
 -- what the counts of a file in order are, and how long it is
 pub contents-fit : (s : List ℕ) → contentsRight s ≡ accepted tt

@@ -1,7 +1,6 @@
 // A station: its file, and its record.
 mod bodies;
 mod contents;
-mod layout;
 mod numbers;
 pub mod reader;
 pub mod record;

@@ -11,6 +11,7 @@ use rules::answers::Verdict;
 use rules::station::Battery;
 use rules::station::Control;
 use rules::station::Station;
+use station_fields::ranges;
 
 // The verdict on a file, and the record that it gives; where it is refused, the record of zeros.
 pub struct Reading {
@@ -45,8 +46,8 @@ pub fn no_station() -> Station
         battery,
         setcount: 0,
         configcount: 0,
-        sets: [none; 8],
-        configs: [0; 64],
+        sets: [none; ranges::SETS_MOST],
+        configs: [0; ranges::CONFIGURATIONS_MOST],
     }
 }
 

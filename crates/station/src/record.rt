@@ -5,17 +5,17 @@ ghost use Rattle.rules.specs.Numbers.{every, allZero};
 ghost use Rattle.rules.specs.StationRecord.{setUnused, someFileGives};
 use crate::values::values_right;
 use rules::answers::Verdict;
-use rules::limits::MOST_CONFIGURATIONS;
-use rules::limits::MOST_SETS;
 use rules::station::GenSet;
 use rules::station::Station;
+use station_fields::layout;
+use station_fields::ranges;
 
-fn pairs_unused(numbers: [u32; 5]) -> bool
+fn pairs_unused(numbers: [u32; layout::PAIRS]) -> bool
     ensures { λ r. ⌜ r ≡ allZero numbers ⌝ }
 {
     let mut ok = true;
     let mut i: usize = 0;
-    while i < 5 {
+    while i < layout::PAIRS {
         ok = ok & (numbers[i] == 0);
         i += 1;
     }
@@ -37,12 +37,12 @@ fn set_unused(g: GenSet) -> bool
         & pairs_unused(rates)
 }
 
-fn sets_unused(sets: [GenSet; 8], from: usize) -> bool
+fn sets_unused(sets: [GenSet; ranges::SETS_MOST], from: usize) -> bool
     ensures { λ r. ⌜ r ≡ every setUnused (drop from sets) ⌝ }
 {
     let mut ok = true;
     let mut i = from;
-    while i < 8 {
+    while i < ranges::SETS_MOST {
         let g = sets[i];
         ok = ok & set_unused(g);
         i += 1;
@@ -50,12 +50,12 @@ fn sets_unused(sets: [GenSet; 8], from: usize) -> bool
     ok
 }
 
-fn configurations_unused(configs: [u8; 64], from: usize) -> bool
+fn configurations_unused(configs: [u8; ranges::CONFIGURATIONS_MOST], from: usize) -> bool
     ensures { λ r. ⌜ r ≡ allZero (drop from configs) ⌝ }
 {
     let mut ok = true;
     let mut i = from;
-    while i < 64 {
+    while i < ranges::CONFIGURATIONS_MOST {
         ok = ok & (configs[i] == 0);
         i += 1;
     }
@@ -67,8 +67,9 @@ pub fn some_file_gives(st: Station) -> bool
 {
     let setcount = st.setcount;
     let configcount = st.configcount;
-    if !(((1 <= setcount) & (setcount <= MOST_SETS))
-        & ((1 <= configcount) & (configcount <= MOST_CONFIGURATIONS))) {
+    if !(((ranges::SETS_LEAST <= setcount) & (setcount <= ranges::SETS_MOST))
+        & ((ranges::CONFIGURATIONS_LEAST <= configcount)
+            & (configcount <= ranges::CONFIGURATIONS_MOST))) {
         return false;
     }
     let verdict = values_right(st);

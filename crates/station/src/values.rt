@@ -7,79 +7,76 @@ ghost use Rattle.rules.specs.Answers.{verdictOf};
 ghost use Rattle.rules.specs.StationRecord.{controlRight, batteryRight, serviceRight, setRight, pairRight, rises, pairsRight, configurationRight, setsRight, configurationsRight, valuesRight};
 use rules::answers::Refusal;
 use rules::answers::Verdict;
-use rules::limits::LEAST_POINTS;
-use rules::limits::MOST_CONTENT;
-use rules::limits::MOST_COOLDOWN;
-use rules::limits::MOST_INTERVAL;
-use rules::limits::MOST_K;
-use rules::limits::MOST_LOAD;
-use rules::limits::MOST_MINIMUM_SECONDS;
-use rules::limits::MOST_PERCENT;
-use rules::limits::MOST_POINTS;
-use rules::limits::MOST_POWER;
-use rules::limits::MOST_RATE;
-use rules::limits::MOST_RATING;
-use rules::limits::MOST_SERVICE;
-use rules::limits::MOST_SHED_DELAY;
-use rules::limits::MOST_WARMUP;
 use rules::station::Battery;
 use rules::station::Control;
 use rules::station::GenSet;
 use rules::station::Station;
+use station_fields::layout;
+use station_fields::ranges;
 use words::masks::existing_only;
+
+// A pair's load is held against the next, so the last pair has none.
+const RISES: usize = layout::PAIRS - 1;
 
 // 4
 fn control_right(setcount: usize, c: Control) -> bool
     ensures { λ r. ⌜ r ≡ controlRight setcount c ⌝ }
 {
-    (c.spinning <= MOST_POWER)
-        & (c.coverage <= MOST_PERCENT)
-        & (c.minload <= MOST_PERCENT)
-        & (c.shed <= MOST_PERCENT)
-        & ((1 <= c.delay) & (c.delay <= MOST_SHED_DELAY))
-        & (c.k <= MOST_K)
-        & (c.minseconds <= MOST_MINIMUM_SECONDS)
-        & (c.maintain <= 1)
+    ((ranges::SPINNING_LEAST <= c.spinning) & (c.spinning <= ranges::SPINNING_MOST))
+        & ((ranges::COVERAGE_LEAST <= c.coverage) & (c.coverage <= ranges::COVERAGE_MOST))
+        & ((ranges::MINIMUM_LOAD_LEAST <= c.minload) & (c.minload <= ranges::MINIMUM_LOAD_MOST))
+        & ((ranges::SHED_LEAST <= c.shed) & (c.shed <= ranges::SHED_MOST))
+        & ((ranges::SHED_DELAY_LEAST <= c.delay) & (c.delay <= ranges::SHED_DELAY_MOST))
+        & ((ranges::FILTER_K_LEAST <= c.k) & (c.k <= ranges::FILTER_K_MOST))
+        & ((ranges::MINIMUM_SECONDS_LEAST <= c.minseconds)
+            & (c.minseconds <= ranges::MINIMUM_SECONDS_MOST))
+        & ((ranges::MAINTAIN_LEAST <= c.maintain) & (c.maintain <= ranges::MAINTAIN_MOST))
         & existing_only(setcount, c.online as u64)
 }
 
-// 5
+// 5: the ranges of the least and of the start content follow from the others, and are asked so that each row of the table counts.
 fn battery_right(b: Battery) -> bool
     ensures { λ r. ⌜ r ≡ batteryRight b ⌝ }
 {
-    (b.power <= MOST_POWER)
-        & ((1 <= b.efficiency) & (b.efficiency <= MOST_PERCENT))
+    ((ranges::POWER_LEAST <= b.power) & (b.power <= ranges::POWER_MOST))
+        & ((ranges::EFFICIENCY_LEAST <= b.efficiency) & (b.efficiency <= ranges::EFFICIENCY_MOST))
         & (b.least <= b.start)
         & (b.start <= b.most)
-        & (b.most <= MOST_CONTENT)
+        & ((ranges::MOST_CONTENT_LEAST <= b.most) & (b.most <= ranges::MOST_CONTENT_MOST))
+        & (((ranges::LEAST_CONTENT_LEAST <= b.least) & (b.least <= ranges::LEAST_CONTENT_MOST))
+            & ((ranges::START_CONTENT_LEAST <= b.start) & (b.start <= ranges::START_CONTENT_MOST)))
 }
 
+// "service time s 1 to 2,592,000, but 0 where the interval is 0"
 fn service_right(interval: u32, service: u32) -> bool
     ensures { λ r. ⌜ r ≡ serviceRight interval service ⌝ }
 {
+    let in_range = (ranges::SERVICE_TIME_LEAST <= service) & (service <= ranges::SERVICE_TIME_MOST);
     if interval == 0 {
-        return service == 0;
+        return (service == 0) & in_range;
     }
-    (1 <= service) & (service <= MOST_SERVICE)
+    (0 < service) & in_range
 }
 
 // 6
 fn set_right(g: GenSet) -> bool
     ensures { λ r. ⌜ r ≡ setRight g ⌝ }
 {
-    ((1 <= g.rating) & (g.rating <= MOST_RATING))
-        & ((1 <= g.warmup) & (g.warmup <= MOST_WARMUP))
-        & ((1 <= g.cooldown) & (g.cooldown <= MOST_COOLDOWN))
-        & (g.interval <= MOST_INTERVAL)
+    ((ranges::RATING_LEAST <= g.rating) & (g.rating <= ranges::RATING_MOST))
+        & ((ranges::WARM_UP_LEAST <= g.warmup) & (g.warmup <= ranges::WARM_UP_MOST))
+        & ((ranges::COOL_DOWN_LEAST <= g.cooldown) & (g.cooldown <= ranges::COOL_DOWN_MOST))
+        & ((ranges::SERVICE_INTERVAL_LEAST <= g.interval)
+            & (g.interval <= ranges::SERVICE_INTERVAL_MOST))
         & service_right(g.interval, g.service)
-        & ((LEAST_POINTS <= g.points) & (g.points <= MOST_POINTS))
+        & ((ranges::POINTS_LEAST <= g.points) & (g.points <= ranges::POINTS_MOST))
 }
 
 fn pair_right(points: u32, place: u32, load: u32, rate: u32) -> bool
     ensures { λ r. ⌜ r ≡ pairRight points place load rate ⌝ }
 {
     if place < points {
-        return (load <= MOST_LOAD) & (rate <= MOST_RATE);
+        return ((ranges::PAIR_LOAD_LEAST <= load) & (load <= ranges::PAIR_LOAD_MOST))
+            & ((ranges::PAIR_RATE_LEAST <= rate) & (rate <= ranges::PAIR_RATE_MOST));
     }
     (load == 0) & (rate == 0)
 }
@@ -95,24 +92,24 @@ fn rises_at(points: u32, place: u32, load: u32, next: u32) -> bool
 }
 
 // The pairs that are used in their ranges, the others zero.
-fn pairs_in_range(points: u32, loads: [u32; 5], rates: [u32; 5]) -> bool
+fn pairs_in_range(points: u32, loads: [u32; layout::PAIRS], rates: [u32; layout::PAIRS]) -> bool
     ensures { λ r. ⌜ r ≡ allTo 5 (λ j. pairRight points j (getD loads j 0) (getD rates j 0)) ⌝ }
 {
     let mut ok = true;
     let mut i: usize = 0;
-    while i < 5 {
+    while i < layout::PAIRS {
         ok = ok & pair_right(points, i as u32, loads[i], rates[i]);
         i += 1;
     }
     ok
 }
 
-fn loads_rise(points: u32, loads: [u32; 5]) -> bool
+fn loads_rise(points: u32, loads: [u32; layout::PAIRS]) -> bool
     ensures { λ r. ⌜ r ≡ allTo 4 (λ j. rises points j (getD loads j 0) (getD loads (suc j) 0)) ⌝ }
 {
     let mut ok = true;
     let mut i: usize = 0;
-    while i < 4 {
+    while i < RISES {
         ok = ok & rises_at(points, i as u32, loads[i], loads[i + 1]);
         i += 1;
     }
@@ -129,7 +126,7 @@ fn pairs_right(g: GenSet) -> bool
 }
 
 // 6 and 7 of the first `setcount` sets, set by set.
-fn sets_right(sets: [GenSet; 8], setcount: usize) -> Verdict
+fn sets_right(sets: [GenSet; ranges::SETS_MOST], setcount: usize) -> Verdict
     requires { ⌜ setcount ≤ 8 ⌝ }
     ensures { λ r. ⌜ verdictOf r ≡ setsRight 0 (take setcount sets) ⌝ }
 {
@@ -156,7 +153,11 @@ fn configuration_right(setcount: usize, mask: u8) -> bool
 }
 
 // 8 of the first `configcount` configurations.
-fn configurations_right(configs: [u8; 64], configcount: usize, setcount: usize) -> Verdict
+fn configurations_right(
+    configs: [u8; ranges::CONFIGURATIONS_MOST],
+    configcount: usize,
+    setcount: usize,
+) -> Verdict
     requires { ⌜ configcount ≤ 64 ⌝ }
     ensures { λ r. ⌜ verdictOf r ≡ configurationsRight setcount 0 (take configcount configs) ⌝ }
 {

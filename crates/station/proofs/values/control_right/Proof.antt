@@ -1,4 +1,5 @@
 -- `station::values::control_right` meets its contract. Assumes nothing.
+use lib.Dec.{leb·zero}
 use Rattle.rules.specs.StationRecord.{controlRight}
 use borrow.Author.Needs.{needs}
 use Rattle.station.proofs.values.control_right.Statement.{statement}
@@ -12,7 +13,7 @@ existing-only-requires c κs = search needs
 
 returns : tie.Need-returns
 unfolding controlRight
-returns c = rw (c .existing-only .ensures)
+returns c = simp (leb·zero, c .existing-only .ensures)
 
 pub control-right-spec : {M : Type 1} → statement M
 control-right-spec = tie.close (tie.spec cast-existing-only existing-only-requires returns)

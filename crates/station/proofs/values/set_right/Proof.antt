@@ -1,4 +1,5 @@
 -- `station::values::set_right` meets its contract. Assumes nothing.
+use lib.Dec.{leb·zero}
 use Rattle.rules.specs.StationRecord.{setRight}
 use borrow.Author.Needs.{needs}
 use Rattle.station.proofs.values.set_right.Statement.{statement}
@@ -9,7 +10,7 @@ service-right-requires c κs = search needs
 
 returns : tie.Need-returns
 unfolding setRight
-returns c = rw (c .before .before .service-right .ensures)
+returns c = simp (leb·zero, c .before .before .service-right .ensures)
 
 pub set-right-spec : {M : Type 1} → statement M
 set-right-spec = tie.close (tie.spec service-right-requires returns)
