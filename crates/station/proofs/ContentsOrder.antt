@@ -1,20 +1,19 @@
--- The checks of a file one after the other: size, table of contents, values; and those of 25. Assumes nothing.
+-- The checks of a file one after the other: size, table of contents, values. Assumes nothing.
 use Prim.Native.Nat.{ℕ, _+_, _*_, _≤_, _<_}
 use mathlib.Core.Path.{_≡_, refl, sym, ap, _∙_}
 use mathlib.Core.Bool.{Bool, true, false, _&&_}
 use mathlib.Core.List.{List}
 use native.Mathlib.Omega.{arith}
 use lib.Dec.{leb, eqb}
-use lib.ListN.{length, drop}
+use lib.ListN.{length}
 use borrow.Author.Tests.{lt-leb}
 use Rattle.rules.specs.declared.answers.Refusal.{Refusal}
 use Rattle.rules.specs.declared.answers.Verdict.{Verdict}
 use Rattle.rules.specs.declared.answers.Verdict.the-variants.{Accepted, Refused}
-use Rattle.rules.specs.declared.station.Station.{Station}
-use Rattle.rules.specs.Numbers.{within, every, allZero}
+use Rattle.rules.specs.Numbers.{within}
 use Rattle.rules.specs.Answers.{accepted, refused, judged, valueOr, verdictOf}
-use Rattle.rules.specs.StationRecord.{noStation, valuesRight, setUnused, someFileGives}
-use Rattle.rules.proofs.Tests.{both, within-fact, fact-within}
+use Rattle.rules.specs.StationRecord.{noStation, valuesRight}
+use Rattle.rules.proofs.Tests.{within-fact, fact-within}
 use Rattle.rules.proofs.StationRead.{contents}
 use Rattle.rules.specs.StationFile.{countAt, configsOffset, entryRight, recordOf, contentsRight, stationFile}
 
@@ -79,11 +78,6 @@ contents-fit s h =
     let m = within-fact 1 64 (countAt s 3) (c .configs-in-range) in
     (n .1, m .1, omega (arith, n .0, m .0, c .size), c .size)
 
--- so many sets and configurations has the record
-pub counts-read : (s : List ℕ) → contentsRight s ≡ accepted tt → (recordOf s .setcount ≤ 8) × (recordOf s .configcount ≤ 64)
-unfolding recordOf
-counts-read s h = let f = contents-fit s h in (f .0, f .1)
-
 -- ---- the whole file: its contents, then its values
 
 module _ (s : List ℕ) (v : Verdict) (contents-are : verdictOf v ≡ contentsRight s) where
@@ -102,23 +96,3 @@ module _ (s : List ℕ) (v : Verdict) (contents-are : verdictOf v ≡ contentsRi
     pub file-read : w ≡ Accepted → (accepted tt ≡ judged (stationFile s)) × (recordOf s ≡ valueOr noStation (stationFile s))
     unfolding stationFile
     file-read e = (rw (contents-passed passed, ← values-are, e), rw (contents-passed passed, ← values-are, e))
-
--- ---- 25
-
-pub counts-range : (n m : ℕ) → within 1 8 n && within 1 64 m ≡ true → (n ≤ 8) × (m ≤ 64)
-counts-range n m h = let t = both (within 1 8 n) (within 1 64 m) h in (within-fact 1 8 n (t .0) .1, within-fact 1 64 m (t .1) .1)
-
-module _ (st : Station) where
-  pub counts-first : within 1 8 (st .setcount) && within 1 64 (st .configcount) ≡ false → false ≡ someFileGives st
-  unfolding someFileGives
-  counts-first e = rw e
-
-  module _ (counts : within 1 8 (st .setcount) && within 1 64 (st .configcount) ≡ true) (v : Verdict) (values : verdictOf v ≡ valuesRight st) where
-    pub values-next : (r : Refusal) → v ≡ Refused r → false ≡ someFileGives st
-    unfolding someFileGives
-    values-next r e = rw (counts, ← values, e)
-
-    pub unused-last : (sets configs : Bool) → v ≡ Accepted → sets ≡ every setUnused (drop (st .setcount) (st .sets)) → configs ≡ allZero (drop (st .configcount) (st .configs))
-        → sets && configs ≡ someFileGives st
-    unfolding someFileGives
-    unused-last sets configs e p q = rw (counts, ← values, e, p, q)

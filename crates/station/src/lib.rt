@@ -1,7 +1,5 @@
-// A station: its file, and its record.
+// A station file: its bytes become a record, or the first refusal.
 mod bodies;
 mod contents;
 mod numbers;
 pub mod reader;
-pub mod record;
-mod values;
