@@ -22,10 +22,10 @@ use Rattle.rules.specs.Bytes.{AreBytes, SliceHeld}
 use Rattle.rules.specs.Answers.{Answer, accepted, refused}
 use Rattle.rules.specs.StationFile.{stationFile}
 use Rattle.rules.specs.Run.{secondsAsked, printed}
-use Rattle.intake.specs.declared.station_bytes.StationBytes.{StationBytes}
-use Rattle.intake.specs.Arrivals as arrivals
-use Rattle.intake.specs.Stations.{stationWith}
-use Rattle.intake.proofs.StationChunks as stations
+use Rattle.station.specs.declared.chunks.StationBytes.{StationBytes}
+use Rattle.rules.specs.Chunks as arrivals
+use Rattle.station.specs.Stations.{stationWith}
+use Rattle.station.proofs.StationChunks as stations
 use Rattle.samples.specs.declared.check.Span.{Span}
 use Rattle.samples.specs.declared.check.SampleCheck.{SampleCheck}
 use Rattle.samples.specs.declared.check.Checked.{Checked}

@@ -1,10 +1,10 @@
 -- The checks of a file one after the other: size, table of contents, values. Assumes nothing.
 use Prim.Native.Nat.{ℕ, _+_, _*_, _≤_, _<_}
-use mathlib.Core.Path.{_≡_, refl, sym, ap, _∙_}
-use mathlib.Core.Bool.{Bool, true, false, _&&_}
+use mathlib.Core.Path.{_≡_, sym, ap, _∙_}
+use mathlib.Core.Bool.{true, false}
 use mathlib.Core.List.{List}
 use native.Mathlib.Omega.{arith}
-use lib.Dec.{leb, eqb}
+use lib.Dec.{eqb}
 use lib.ListN.{length}
 use borrow.Author.Tests.{lt-leb}
 use Rattle.rules.specs.declared.answers.Refusal.{Refusal}
@@ -13,16 +13,9 @@ use Rattle.rules.specs.declared.answers.Verdict.the-variants.{Accepted, Refused
 use Rattle.rules.specs.Numbers.{within}
 use Rattle.rules.specs.Answers.{accepted, refused, judged, valueOr, verdictOf}
 use Rattle.rules.specs.StationRecord.{noStation, valuesRight}
-use Rattle.rules.proofs.Tests.{within-fact, fact-within}
+use Rattle.rules.proofs.Tests.{within-fact, fact-within, over-range}
 use Rattle.rules.proofs.StationRead.{contents}
 use Rattle.rules.specs.StationFile.{countAt, configsOffset, entryRight, recordOf, contentsRight, stationFile}
-
-above-range : (least most n : ℕ) → most < n → within least most n ≡ false
-above-range least most n h = go (leb least n) (leb n most) (lt-leb n most h)
-  where
-    go : (a b : Bool) → b ≡ false → a && b ≡ false
-    go true b e = e
-    go false b e = refl
 
 module _ (s : List ℕ) where
   pub too-short : length s < 165 → refused 1 0 ≡ contentsRight s
@@ -31,7 +24,7 @@ module _ (s : List ℕ) where
 
   pub too-long : 676 < length s → refused 1 0 ≡ contentsRight s
   unfolding contentsRight
-  too-long l = rw (above-range 165 676 (length s) l)
+  too-long l = rw (over-range 165 676 (length s) l)
 
   module _ (least : 165 ≤ length s) (most : length s ≤ 676) where
     size : within 165 676 (length s) ≡ true

@@ -7,8 +7,6 @@ ghost use Rattle.rules.specs.StationFile.{countAt, entryRight, contentsRight};
 use crate::numbers::number_at;
 use rules::answers::Refusal;
 use rules::answers::Verdict;
-use rules::limits::LEAST_FILE;
-use rules::limits::MOST_FILE;
 use station_fields::layout;
 
 // The count that the entry at this place has.
@@ -39,10 +37,10 @@ pub(crate) fn contents_right(s: &[u8]) -> Verdict
     ensures { λ r. ⌜ verdictOf r ≡ contentsRight (now (s .entry)) ⌝ }
 {
     let size = s.len();
-    if size < LEAST_FILE {
+    if size < layout::LEAST_FILE {
         return Verdict::Refused(Refusal::StationSize);
     }
-    if MOST_FILE < size {
+    if layout::MOST_FILE < size {
         return Verdict::Refused(Refusal::StationSize);
     }
     if !entry_right(

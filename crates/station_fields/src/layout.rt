@@ -77,6 +77,15 @@ pub const SET_SIZE: usize = SETS_PART.size;
 
 pub const CONFIGURATION_SIZE: usize = CONFIGURATIONS_PART.size;
 
+// "a file has 165 to 676 bytes": with the fewest and with the most sets and configurations
+pub const LEAST_FILE: usize = SETS_AT
+    + SET_SIZE * SETS_PART.least as usize
+    + CONFIGURATION_SIZE * CONFIGURATIONS_PART.least as usize;
+
+pub const MOST_FILE: usize = SETS_AT
+    + SET_SIZE * SETS_PART.most as usize
+    + CONFIGURATION_SIZE * CONFIGURATIONS_PART.most as usize;
+
 // The pairs of a set's fuel curve stand after its other numbers.
 pub const PAIRS_OFFSET: usize = 24;
 
