@@ -14,7 +14,7 @@ use Rattle.rules.specs.declared.station.Station.{Station}
 use Rattle.rows.specs.AnswerLine.{acceptedLine, refusedLine}
 use Rattle.rows.specs.Written.{TextPut}
 use Rattle.rows.proofs.Room.{put-means, none-means}
-use Rattle.intake.specs.Stations.{stationWith}
+use Rattle.station.specs.Stations.{stationWith}
 use Rattle.samples.specs.declared.check.Checked.{Checked}
 use Rattle.samples.specs.declared.check.Span.{Span}
 use Rattle.samples.specs.Streamed.{checkedWith, checkedOf}

@@ -7,7 +7,6 @@ use crate::state::Stage;
 use crate::state::stopped;
 use exchange::action::Why;
 use exchange::action::Word;
-use intake::station_bytes::station_of;
 use rows::run_lines::put_accepted;
 use rows::run_lines::put_refused;
 use rules::answers::Outcome;
@@ -15,6 +14,7 @@ use rules::answers::Refusal;
 use rules::answers::Verdict;
 use samples::check::Checked;
 use samples::check::finish;
+use station::chunks::station_of;
 use words::refusals::number_and_place;
 
 fn accept(held: Held, out: &mut [u8]) -> Machine

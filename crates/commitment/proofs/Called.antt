@@ -1,27 +1,15 @@
 -- The configuration called, from what the code has found of it: kept, or the first that covers, or the greatest. Assumes nothing.
 use Prim.Native.Nat.{ℕ, _-_, _≤_, _<_, min}
-use mathlib.Core.Path.{_≡_, sym, _∙_}
+use mathlib.Core.Path.{_≡_}
 use mathlib.Core.Bool.{Bool, true, false, _&&_}
 use mathlib.Core.List.{List}
-use native.Mathlib.Omega.{arith}
-use native.Mathlib.Decide.{decLt}
 use lib.Dec.{ltb}
 use lib.Ieee.{Float}
 use lib.ListN.{length, take}
-use lib.Seq.{take-all}
 use borrow.Author.Tests.{lt-ltb, le-ltb}
 use Rattle.rules.specs.declared.station.Station.{Station}
+use Rattle.rules.proofs.Tables.{take-least}
 use Rattle.commitment.specs.Choice.{calledCovers, none, firstCoveringOf, greatestUsableOf, chosenOf}
-
--- no more than the whole list is taken
-take-most : (l : List ℕ) (n m : ℕ) → length l ≡ m → take (min n m) l ≡ take n l
-take-most l n m e = go (decLt n m)
-  where
-    go : Dec (n < m) → take (min n m) l ≡ take n l
-    go (yes h) = let s : min n m ≡ n = omega arith in rw s
-    go (no h) =
-        let s : min n m ≡ m = omega (arith, h) in
-        rw s (take-all m l (omega arith) ∙ sym (take-all n l (omega (arith, h))))
 
 module _ (st : Station) (caps : List ℕ) (barred : ℕ) (held : Float) (called since now : ℕ) {elapsed : ℕ} {covering : Bool}
     (its-test : covering ≡ calledCovers (st .configs) caps barred held called) (its-time : elapsed ≡ now - since) where
@@ -32,7 +20,7 @@ module _ (st : Station) (caps : List ℕ) (barred : ℕ) (held : Float) (called 
   module _ {count first : ℕ} (dropped : covering && ltb elapsed (st .control .minseconds) ≡ false) (counted : count ≡ min (st .configcount) 64) (size : length (st .configs) ≡ 64)
       (its-first : first ≡ firstCoveringOf caps barred held 0 (take count (st .configs))) where
     masks : take count (st .configs) ≡ take (st .configcount) (st .configs)
-    masks = rw counted (take-most (st .configs) (st .configcount) 64 size)
+    masks = rw (counted, ← size) (take-least (st .configcount) (st .configs))
 
     found : first ≡ firstCoveringOf caps barred held 0 (take (st .configcount) (st .configs))
     found = rw (← masks) its-first

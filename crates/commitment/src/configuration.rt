@@ -7,9 +7,9 @@ ghost use Rattle.rules.specs.Configuration.{maskCalled, sinceAfter};
 ghost use Rattle.rules.specs.Share.{capacity};
 ghost use Rattle.commitment.specs.Choice.{capacities, usableOf, usableCoveringOf, calledCovers, none, greater, firstCoveringOf, greatestUsableOf, chosenOf};
 use gensets::share::capacity;
-use rules::limits::MOST_CONFIGURATIONS;
 use rules::station::GenSet;
 use rules::station::Station;
+use station_fields::ranges;
 use words::arithmetic::byte_u32;
 use words::arithmetic::over;
 
@@ -21,7 +21,7 @@ pub fn mask_called(configs: [u8; 64], called: usize) -> u32
     if called == 0 {
         return 0;
     }
-    if MOST_CONFIGURATIONS < called {
+    if ranges::CONFIGURATIONS_MOST < called {
         return 0;
     }
     configs[called - 1] as u32
@@ -141,10 +141,10 @@ fn greatest_usable(configs: &[u8; 64], caps: &[u32; 64], configcount: usize, bar
 fn in_table(configcount: usize) -> usize
     ensures { λ r. ⌜ (r ≡ min configcount 64) × (r ≤ 64) ⌝ }
 {
-    if configcount < MOST_CONFIGURATIONS {
+    if configcount < ranges::CONFIGURATIONS_MOST {
         configcount
     } else {
-        MOST_CONFIGURATIONS
+        ranges::CONFIGURATIONS_MOST
     }
 }
 
@@ -162,7 +162,7 @@ fn called_covers(
     if called == 0 {
         return false;
     }
-    if called > MOST_CONFIGURATIONS {
+    if called > ranges::CONFIGURATIONS_MOST {
         return false;
     }
     let place = called - 1;

@@ -4,19 +4,19 @@ ghost use Prim.Native.Nat.{_≤_};
 ghost use Rattle.rules.specs.Answers.{numberAndPlace, valueOr};
 ghost use Rattle.rules.specs.Run.{secondsAsked};
 ghost use Rattle.samples.specs.Streamed.{checkedOf};
-ghost use Rattle.intake.specs.Stations.{stationWith};
+ghost use Rattle.station.specs.Stations.{stationWith};
 ghost use Rattle.course.specs.Begin.{Refuses, Starting, BegunAs, AskedAs};
 use crate::state::Course;
+use arguments::seconds::seconds_asked;
 use held_inputs::inputs::inputs;
-use intake::asked::seconds_asked;
-use intake::station_bytes::StationBytes;
-use intake::station_bytes::station_of;
 use records::start::start;
 use rules::answers::Amount;
 use rules::answers::Refusal;
 use rules::answers::Verdict;
 use rules::station::Station;
 use samples::check::Checked;
+use station::chunks::StationBytes;
+use station::chunks::station_of;
 use station::reader::no_station;
 
 // The verdict on both files and the seconds asked, and the course that they come to; where it is refused, that of no station.

@@ -18,7 +18,7 @@ use rules::limits::SECOND_INPUTS;
 use rules::run::Inputs;
 use rules::run::Run;
 use rules::station::Station;
-use station::record::some_file_gives;
+use station_record::record::some_file_gives;
 use words::arithmetic::lesser;
 
 // No power over its limit.

@@ -14,7 +14,7 @@ use rules::run::Handed;
 use rules::run::Inputs;
 use rules::run::Run;
 use rules::station::Station;
-use station::record::some_file_gives;
+use station_record::record::some_file_gives;
 
 // One second. A refused one hands the record back and leaves the buffer as they were.
 pub fn second(st: Station, run: Run, inputs: Inputs, row: &mut [u8]) -> Handed

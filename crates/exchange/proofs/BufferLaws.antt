@@ -1,11 +1,10 @@
 -- A buffer with bytes put into a part of it: its length, what stands in the part and outside it, and that it is bytes. Assumes nothing.
-use Prim.Native.Nat.{ℕ, zero, suc, _+_, _-_, _≤_, min}
+use Prim.Native.Nat.{ℕ, zero, suc, _+_, _-_, _≤_}
 use mathlib.Core.Path.{_≡_, sym, ap, _∙_}
 use mathlib.Core.List.{List, [], _∷_, _++_}
-use native.Mathlib.Nat.{zero-min}
 use native.Mathlib.Omega.{arith}
 use lib.ListN.{length, take, drop, length-append, length-drop, take-append-drop}
-use lib.Seq.{length-take-le, take-append-seam, drop-append-seam, drop-drop, take-nil}
+use lib.Seq.{length-take-le, take-append-seam, drop-append-seam, drop-drop}
 use Rattle.rules.specs.Bytes.{AreBytes}
 
 -- ---- bytes
@@ -31,14 +30,6 @@ take-front n l m e = ap (λ (k : ℕ). take k (l ++ m)) (sym e) ∙ take-append-
 
 drop-front : (n : ℕ) (l m : List ℕ) → length l ≡ n → drop n (l ++ m) ≡ m
 drop-front n l m e = ap (λ (k : ℕ). drop k (l ++ m)) (sym e) ∙ drop-append-seam l m
-
--- no more is there to take
-pub take-least : (n : ℕ) (l : List ℕ) → take (min n (length l)) l ≡ take n l
-take-least zero l = ap (λ (k : ℕ). take k l) (zero-min (length l))
-take-least (suc n) [] = take-nil (min (suc n) 0)
-take-least (suc n) (x ∷ l) =
-    let e : min (suc n) (suc (length l)) ≡ suc (min n (length l)) = omega arith in
-    ap (λ (k : ℕ). take k (x ∷ l)) e ∙ ap (λ (m : List ℕ). x ∷ m) (take-least n l)
 
 -- ---- n bytes put into a buffer from a place on, all of them within it
 

@@ -9,13 +9,14 @@ use native.Mathlib.Decide.{decLe}
 use lib.Dec.{eqb}
 use lib.ListN.{length, take, drop}
 use Rattle.rules.specs.Bytes.{AreBytes, SliceHeld}
+use Rattle.rules.proofs.Tables.{take-least}
 use Rattle.exchange.specs.declared.action.Action.{Action}
 use Rattle.exchange.specs.declared.action.Word.{Word}
 use Rattle.exchange.specs.declared.event.Event.{Event}
 use Rattle.exchange.specs.World.{World, leftIn, againIn, leftOf, againOf, oneOf, withFile, Outside, Fits, after}
 use Rattle.exchange.specs.Events.{Events}
 use Rattle.exchange.specs.Existing.{AllBytes, WorldHeld, EventHeld, Answered, Well, WellEvents, Lists}
-use Rattle.exchange.proofs.BufferLaws.{drop-bytes, take-least, put, put-size, put-ahead, put-part, put-behind, put-bytes, part-then-rest}
+use Rattle.exchange.proofs.BufferLaws.{drop-bytes, put, put-size, put-ahead, put-part, put-behind, put-bytes, part-then-rest}
 
 -- ---- they are lists of events
 

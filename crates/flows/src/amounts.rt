@@ -6,8 +6,8 @@ ghost use Rattle.rules.specs.Flows.{shedDecided, decidedAfter};
 ghost use Rattle.flows.specs.Amounts.{decidedIn};
 use crate::arithmetic::at_most;
 use crate::arithmetic::percent;
-use rules::limits::MOST_SHED_DELAY;
 use rules::station::Control;
+use station_fields::ranges;
 use words::arithmetic::over;
 use words::arithmetic::over_u32;
 
@@ -33,11 +33,11 @@ pub fn oldest(decided: &[u32]) -> u32
 fn moving(delay: u32) -> usize
     ensures { λ r. ⌜ r ≡ min 60 (max 1 delay) ⌝ }
 {
-    if delay < 1 {
-        return 1;
+    if delay < ranges::SHED_DELAY_LEAST {
+        return ranges::SHED_DELAY_LEAST as usize;
     }
-    if MOST_SHED_DELAY < delay {
-        return MOST_SHED_DELAY as usize;
+    if ranges::SHED_DELAY_MOST < delay {
+        return ranges::SHED_DELAY_MOST as usize;
     }
     delay as usize
 }

@@ -7,12 +7,8 @@ ghost use Rattle.gensets.specs.Leaves.{lineRight, rateTold};
 use crate::line::line_of;
 use crate::line::product;
 use crate::line::rate_on;
-use rules::limits::LEAST_POINTS;
-use rules::limits::MOST_LOAD;
-use rules::limits::MOST_POINTS;
-use rules::limits::MOST_RATE;
-use rules::limits::MOST_RATING;
 use rules::station::GenSet;
+use station_fields::ranges;
 
 // What a set burns at a power.
 pub enum Rate {
@@ -60,22 +56,22 @@ fn line_right(g: GenSet, j: usize) -> bool
     let loads = g.loads;
     let rates = g.rates;
     let next = loads[j + 1];
-    (1 <= g.rating)
-        & (g.rating <= MOST_RATING)
+    (ranges::RATING_LEAST <= g.rating)
+        & (g.rating <= ranges::RATING_MOST)
         & (loads[j] < next)
-        & (next <= MOST_LOAD)
-        & (rates[j] <= MOST_RATE)
-        & (rates[j + 1] <= MOST_RATE)
+        & (next <= ranges::PAIR_LOAD_MOST)
+        & (rates[j] <= ranges::PAIR_RATE_MOST)
+        & (rates[j + 1] <= ranges::PAIR_RATE_MOST)
 }
 
 // The rate at a power, of any record.
 pub fn fuel_rate(g: GenSet, power: u32) -> Rate
     ensures { λ r. ⌜ r ≡ rateTold g power ⌝ }
 {
-    if g.points < LEAST_POINTS {
+    if g.points < ranges::POINTS_LEAST {
         return Rate::OutOfRange;
     }
-    if MOST_POINTS < g.points {
+    if ranges::POINTS_MOST < g.points {
         return Rate::OutOfRange;
     }
     let j = lower_point(g, power);

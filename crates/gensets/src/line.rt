@@ -4,8 +4,8 @@ ghost use mathlib.Core.Bool.{true};
 ghost use Prim.Native.Nat.{_*_, _≤_};
 ghost use Rattle.gensets.specs.Lines.{lineOf, lineSmall, heightOf, rateOn};
 use crate::fuel::Rate;
-use rules::limits::MOST_RATE;
 use rules::station::GenSet;
+use station_fields::ranges;
 use words::arithmetic::over_u32;
 
 // A load of at most 1,500 thousandths of a rating of at most 10,000,000 W.
@@ -62,8 +62,8 @@ fn is_small(line: Line) -> bool
     (1 <= line.width)
         & (line.width <= MOST_START)
         & (line.start <= MOST_START)
-        & (line.first <= (MOST_RATE as u64))
-        & (line.second <= (MOST_RATE as u64))
+        & (line.first <= (ranges::PAIR_RATE_MOST as u64))
+        & (line.second <= (ranges::PAIR_RATE_MOST as u64))
 }
 
 // How high the line is at a power x 1000, times its width; never below zero.

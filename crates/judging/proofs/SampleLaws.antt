@@ -7,10 +7,10 @@ use native.Mathlib.Omega.{arith}
 use lib.ListN.{length, take, drop}
 use Rattle.rules.specs.Answers.{accepted}
 use Rattle.rules.proofs.Tests.{never}
-use Rattle.intake.specs.declared.tally.Tally.{Tally}
-use Rattle.intake.specs.Stations.{isRefused}
-use Rattle.intake.specs.Tally.{talliedOf}
-use Rattle.intake.proofs.TallyLaws.{tallied-append}
+use Rattle.tally.specs.declared.Tally.{Tally}
+use Rattle.station.specs.Stations.{isRefused}
+use Rattle.tally.specs.Tally.{talliedOf}
+use Rattle.tally.proofs.TallyLaws.{tallied-append}
 use Rattle.samples.specs.declared.check.SampleCheck.{SampleCheck}
 use Rattle.samples.specs.declared.check.Span.{Span}
 use Rattle.sheet_stages.specs.declared.stage.Stage as sheets

@@ -7,8 +7,8 @@ use native.Mathlib.Omega.{arith}
 use lib.ListN.{length, take, drop}
 use Rattle.rules.specs.StationFile.{stationFile}
 use Rattle.rules.proofs.Tests.{never}
-use Rattle.intake.specs.declared.station_bytes.StationBytes.{StationBytes}
-use Rattle.intake.specs.Stations.{stationWith, isRefused}
+use Rattle.station.specs.declared.chunks.StationBytes.{StationBytes}
+use Rattle.station.specs.Stations.{stationWith, isRefused}
 use Rattle.exchange.specs.declared.event.Event.{Event}
 use Rattle.exchange.specs.World.{World, leftOf, againOf, withFile}
 use Rattle.judging.specs.declared.state.JudgeStage.{JudgeStage}

@@ -7,9 +7,9 @@ use native.Mathlib.Omega.{arith}
 use lib.ListN.{length}
 use Rattle.rules.specs.StationFile.{stationFile}
 use Rattle.rules.proofs.Tests.{never}
-use Rattle.intake.specs.declared.tally.Tally.{Tally}
-use Rattle.intake.specs.Stations.{stationWith}
-use Rattle.intake.specs.Tally.{noBytes, talliedOf}
+use Rattle.tally.specs.declared.Tally.{Tally}
+use Rattle.station.specs.Stations.{stationWith}
+use Rattle.tally.specs.Tally.{noBytes, talliedOf}
 use Rattle.sheet_stages.specs.ToCome.{placed}
 use Rattle.samples.specs.Streamed.{sheetSpan, checkedWith}
 use Rattle.exchange.specs.declared.action.Why.{Why}

@@ -8,8 +8,8 @@ use lib.ListN.{length}
 use Rattle.rules.specs.declared.station.Station.{Station}
 use Rattle.rules.specs.Answers.{accepted}
 use Rattle.rules.specs.StationFile.{stationFile}
-use Rattle.intake.specs.Stations.{stationWith}
-use Rattle.intake.specs.Tally.{noBytes, talliedOf}
+use Rattle.station.specs.Stations.{stationWith}
+use Rattle.tally.specs.Tally.{noBytes, talliedOf}
 use Rattle.samples.specs.declared.check.Span.{Span}
 use Rattle.sheet_stages.specs.ToCome.{mostPlace, placed}
 use Rattle.samples.specs.Streamed.{sheetSpan, checkedWith}

@@ -13,9 +13,9 @@ use crate::state::moved;
 use crate::state::stopped;
 use exchange::action::Why;
 use exchange::event::Event;
-use intake::station_bytes::station_bytes;
-use intake::tally::no_bytes;
 use samples::check::check;
+use station::chunks::station_bytes;
+use tally::no_bytes;
 
 // Before the first action.
 pub fn judging(twice: bool) -> Judging

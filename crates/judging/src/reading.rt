@@ -9,12 +9,12 @@ use crate::state::STATION;
 use crate::state::stopped;
 use exchange::action::Why;
 use exchange::event::Event;
-use intake::station_bytes::is_station_refused;
-use intake::station_bytes::is_too_long;
-use intake::station_bytes::more_station;
-use intake::tally::tallied;
 use samples::check::feed;
 use samples::check::is_refused;
+use station::chunks::is_station_refused;
+use station::chunks::is_too_long;
+use station::chunks::more_station;
+use tally::tallied;
 
 // A file that is too long is read up to here and no further, so that its size can be told where it is near, and a device without end ends.
 const MOST_STATION: usize = 4096;

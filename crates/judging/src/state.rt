@@ -6,9 +6,9 @@ use exchange::action::BUFFER_END;
 use exchange::action::Why;
 use exchange::action::Word;
 use exchange::event::Event;
-use intake::station_bytes::StationBytes;
-use intake::tally::Tally;
 use samples::check::SampleCheck;
+use station::chunks::StationBytes;
+use tally::Tally;
 
 // The places of the files among the arguments: STATION SAMPLES come first in every program that reads both.
 pub const STATION: usize = 1;

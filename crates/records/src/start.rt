@@ -15,7 +15,7 @@ use rules::run::Run;
 use rules::run::SetState;
 use rules::run::Totals;
 use rules::station::Station;
-use station::record::some_file_gives;
+use station_record::record::some_file_gives;
 
 // The verdict on a station record, and the record that its run starts with; where it is refused, the record of zeros.
 pub struct Started {

@@ -1,13 +1,13 @@
--- Laws of the tables, sums and masks of specs/Numbers.antt. Assumes nothing.
-use Prim.Native.Nat.{ℕ, zero, suc, _+_, _/_, _^_, _≤_, _<_}
+-- Laws of the tables and masks of specs/Numbers.antt, and of the first elements of a list. Assumes nothing.
+use Prim.Native.Nat.{ℕ, zero, suc, _+_, _/_, _^_, _≤_, _<_, min}
 use mathlib.Core.Path.{_≡_, refl, sym, ap, _∙_}
 use mathlib.Core.Bool.{false}
 use mathlib.Core.List.{List, [], _∷_, _++_}
 use native.Mathlib.Omega.{arith}
 use native.Mathlib.Decide.{decLt}
-use native.Mathlib.Nat.{not-suc-le-zero, lt-of-lt-of-le, div-eq-of-lt}
-use lib.ListN.{length, getD, set, length-append, List·getD-append}
-use lib.Seq.{getD-append-add, getD-set-same, getD-set-other}
+use native.Mathlib.Nat.{not-suc-le-zero, lt-of-lt-of-le, div-eq-of-lt, zero-min}
+use lib.ListN.{length, getD, take, length-append, List·getD-append}
+use lib.Seq.{getD-append-add, take-nil}
 use lib.Pow.{pow-mono}
 use Rattle.rules.specs.Numbers.{has, tab}
 
@@ -31,14 +31,13 @@ tab-at f (suc n) i d h = go (tab-at f n i d) (length-tab f n) (decLt i n)
         let q : i ≡ n = omega (arith, k) in
         ap (λ (x : ℕ). getD (tab n f ++ (f n ∷ [])) x d) e ∙ getD-append-add (tab n f) (f n ∷ []) 0 d ∙ ap f (sym q)
 
--- one place more of an array, as a loop stores it
-pub stored : {A : Type 0} (f : ℕ → A) (l : List A) (i : ℕ) (a d : A) → i < length l → ((j : ℕ) → j < i → getD l j d ≡ f j) → a ≡ f i
-    → (j : ℕ) → j < i + 1 → getD (set l i a) j d ≡ f j
-stored f l i a d h before e j k = go (decLt j i)
-  where
-    go : Dec (j < i) → getD (set l i a) j d ≡ f j
-    go (yes q) = getD-set-other l i j a d (λ z. omega (arith, q, z)) ∙ before j q
-    go (no q) = let z : j ≡ i = omega (arith, q) in rw z (getD-set-same l i a d h ∙ e)
+-- no more than the whole list is taken
+pub take-least : {A : Type 0} (n : ℕ) (l : List A) → take (min n (length l)) l ≡ take n l
+take-least zero l = ap (λ (k : ℕ). take k l) (zero-min (length l))
+take-least (suc n) [] = take-nil (min (suc n) 0)
+take-least {A} (suc n) (x ∷ l) =
+    let e : min (suc n) (suc (length l)) ≡ suc (min n (length l)) = omega arith in
+    ap (λ (k : ℕ). take k (x ∷ l)) e ∙ ap (λ (m : List A). x ∷ m) (take-least n l)
 
 -- a mask of n sets has none beyond them
 pub has-beyond : (n mask i : ℕ) → mask < 2 ^ n → n ≤ i → has mask i ≡ false

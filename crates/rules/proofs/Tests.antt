@@ -10,7 +10,7 @@ use native.Mathlib.Numerals.{add-one}
 use lib.Dec.{leb}
 use lib.ListN.{length, getD, drop, drop-of-length-le}
 use lib.Seq.{drop-cons}
-use borrow.Author.Tests.{leb-true, le-leb}
+use borrow.Author.Tests.{leb-true, le-leb, lt-leb}
 use Rattle.rules.specs.Numbers.{if_then_else_, within, allTo, allFrom, allHold, every}
 
 -- nothing is both true and false
@@ -85,6 +85,14 @@ within-fact least most n h = let t = both (leb least n) (leb n most) h in (leb-t
 
 pub fact-within : (least most n : ℕ) → least ≤ n → n ≤ most → within least most n ≡ true
 fact-within least most n p q = and-true (le-leb least n p) (le-leb n most q)
+
+-- a number over its range
+pub over-range : (least most n : ℕ) → most < n → within least most n ≡ false
+over-range least most n h = rw (lt-leb n most h) (and-false (leb least n))
+  where
+    and-false : (b : Bool) → b && false ≡ false
+    and-false true = refl
+    and-false false = refl
 
 -- a choice between two values with a fact of both
 pub choice : {A : Type 0} (P : A → Type 0) (b : Bool) (x y : A) → (b ≡ true → P x) → (b ≡ false → P y) → P (if b then x else y)

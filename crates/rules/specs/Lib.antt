@@ -1,6 +1,7 @@
 -- Document 01 as definitions, in its own order. Nothing here is proved, and nothing is assumed.
 pub mod Numbers
 pub mod Bytes
+pub mod Chunks
 pub mod Answers
 pub mod StationRecord
 pub mod StationFile

@@ -9,7 +9,7 @@ use lib.ListN.{length, take, getD, length-take}
 use lib.Seq.{take-all}
 use borrow.Author.Tests.{eq-eqb}
 use Rattle.rules.proofs.Tests.{never, both, and-true}
-use Rattle.intake.specs.Tally.{noBytes}
+use Rattle.tally.specs.Tally.{noBytes}
 use Rattle.exchange.specs.declared.action.Why.{Why}
 use Rattle.exchange.specs.declared.event.Event.{Event}
 use Rattle.exchange.specs.Existing.{givesUp}

@@ -8,7 +8,7 @@ use lib.ListN.{length, take, drop, length-append, drop-of-length-le}
 use Rattle.rules.specs.declared.run.Inputs.{Inputs}
 use Rattle.rules.specs.Row.{rowHeading}
 use Rattle.rules.proofs.Tests.{never}
-use Rattle.intake.specs.declared.tally.Tally.{Tally}
+use Rattle.tally.specs.declared.Tally.{Tally}
 use Rattle.simulation.specs.declared.state.Phase.{Phase}
 use Rattle.simulation.specs.declared.state.Simulation.{Simulation}
 use Rattle.simulation.specs.declared.state.Turn.{Turn}

@@ -9,9 +9,9 @@ use borrow.Author.Tests.{eqb-true}
 use lib.ListN.{length, take, drop}
 use Rattle.rules.specs.declared.answers.Refusal.{Refusal}
 use Rattle.rules.proofs.Tests.{never, both}
-use Rattle.intake.specs.declared.tally.Tally.{Tally}
-use Rattle.intake.specs.Tally.{noBytes, talliedOf, sameTally}
-use Rattle.intake.proofs.TallyLaws.{tallied-append}
+use Rattle.tally.specs.declared.Tally.{Tally}
+use Rattle.tally.specs.Tally.{noBytes, talliedOf, sameTally}
+use Rattle.tally.proofs.TallyLaws.{tallied-append}
 use Rattle.sheet_stages.specs.ToCome.{mostPlace}
 use Rattle.simulation.specs.declared.state.Simulation.{Simulation}
 use Rattle.simulation.specs.declared.state.Wants.{Wants}

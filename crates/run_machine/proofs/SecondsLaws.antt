@@ -18,8 +18,8 @@ use Rattle.rules.proofs.Tests.{never}
 use Rattle.rows.specs.AnswerLine.{refusedLine}
 use Rattle.rows.specs.Written.{TextPut}
 use Rattle.rows.proofs.Room.{put-means, none-means}
-use Rattle.intake.specs.Stations.{stationWith}
-use Rattle.intake.proofs.SecondsAsked.{long-asked}
+use Rattle.station.specs.Stations.{stationWith}
+use Rattle.arguments.proofs.SecondsAsked.{long-asked}
 use Rattle.samples.specs.declared.check.Checked.{Checked}
 use Rattle.samples.specs.declared.check.Span.{Span}
 use Rattle.samples.specs.Streamed.{sheetSpan, checkedWith, checkedOf}

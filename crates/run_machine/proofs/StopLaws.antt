@@ -13,7 +13,7 @@ use Rattle.rules.specs.declared.station.Station.{Station}
 use Rattle.rules.specs.Row.{rowHeading}
 use Rattle.rows.specs.AnswerLine.{refusedLine}
 use Rattle.rules.proofs.Tests.{never}
-use Rattle.intake.specs.declared.tally.Tally.{Tally}
+use Rattle.tally.specs.declared.Tally.{Tally}
 use Rattle.dispatch.specs.Working.{runAfter}
 use Rattle.simulation.specs.declared.state.Phase.{Phase}
 use Rattle.simulation.specs.declared.state.Simulation.{Simulation}

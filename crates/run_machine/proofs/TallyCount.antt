@@ -7,8 +7,8 @@ use native.Mathlib.Omega.{arith}
 use borrow.Author.Tests.{eq-eqb}
 use lib.ListN.{length, length-append}
 use Rattle.rules.proofs.Tests.{and-true}
-use Rattle.intake.specs.declared.tally.Tally.{Tally}
-use Rattle.intake.specs.Tally.{modulus, noBytes, withByte, talliedOf, sameTally}
+use Rattle.tally.specs.declared.Tally.{Tally}
+use Rattle.tally.specs.Tally.{modulus, noBytes, withByte, talliedOf, sameTally}
 use Rattle.sheet_stages.specs.ToCome.{mostPlace}
 
 -- a count of fewer than 2^64 bytes does not wrap

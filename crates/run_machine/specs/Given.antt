@@ -11,7 +11,7 @@ use Rattle.rules.specs.declared.station.Station.{Station}
 use Rattle.rules.specs.Row.{rowHeading}
 use Rattle.rules.specs.Run.{printed}
 use Rattle.rows.specs.AnswerLine.{refusedLine}
-use Rattle.intake.specs.Tally.{noBytes, talliedOf}
+use Rattle.tally.specs.Tally.{noBytes, talliedOf}
 use Rattle.sheet_stages.specs.ToCome.{mostPlace}
 use Rattle.simulation.specs.declared.state.Simulation.{Simulation}
 use Rattle.simulation.specs.Rows.{rowsWith, setTexts}

@@ -9,8 +9,8 @@ use Rattle.rules.specs.declared.answers.Refusal.{Refusal}
 use Rattle.rules.specs.Answers.{valueOr}
 use Rattle.rules.specs.Run.{secondsAsked}
 use Rattle.rows.specs.AnswerLine.{refusedLine}
-use Rattle.intake.specs.declared.tally.Tally.{Tally}
-use Rattle.intake.specs.Tally.{noBytes, talliedOf}
+use Rattle.tally.specs.declared.Tally.{Tally}
+use Rattle.tally.specs.Tally.{noBytes, talliedOf}
 use Rattle.simulation.specs.declared.state.Simulation.{Simulation}
 use Rattle.simulation.specs.declared.state.Wants.{Wants}
 use Rattle.simulation.specs.Turns.{finished, weight}

@@ -14,13 +14,13 @@ use crate::writing::written;
 use exchange::action::Why;
 use exchange::action::Word;
 use exchange::event::Event;
-use intake::station_bytes::station_bytes;
-use intake::tally::no_bytes;
 use judging::judge::judging;
 use judging::state::SAMPLES;
 use rules::limits::LEAST_ROW_BUFFER;
 use samples::check::check;
 use samples::check::finish;
+use station::chunks::station_bytes;
+use tally::no_bytes;
 
 // "Seconds asked are 1 to 9 digits": one more byte tells that there are too many.
 const LEAST_READ: usize = 10;

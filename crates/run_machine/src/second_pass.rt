@@ -8,10 +8,10 @@ use crate::state::Machine;
 use crate::state::stopped;
 use exchange::action::Why;
 use exchange::event::Event;
-use intake::tally::Tally;
-use intake::tally::same_tally;
-use intake::tally::tallied;
 use judging::state::SAMPLES;
+use tally::Tally;
+use tally::same_tally;
+use tally::tallied;
 
 fn first_tally(held: Held) -> Tally
     ensures { λ r. ⌜ r ≡ held .judging .held .tally ⌝ }

@@ -6,13 +6,13 @@ use exchange::action::BUFFER_END;
 use exchange::action::Why;
 use exchange::action::Word;
 use exchange::event::Event;
-use intake::tally::Tally;
 use judging::state::Judging;
 use judging::state::SAMPLES;
 use judging::state::judge_asks;
 use rules::answers::Refusal;
 use simulation::state::Simulation;
 use simulation::state::Wants;
+use tally::Tally;
 
 // The places of the arguments after both files: SECONDS, and the word that bin/run adds.
 const SECONDS: usize = 3;

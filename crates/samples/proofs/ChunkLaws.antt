@@ -14,7 +14,8 @@ use Rattle.samples.specs.declared.check.SampleCheck.{SampleCheck}
 use Rattle.sheet_stages.specs.ToCome.{toCome, rowFirst, isRow, isRefused}
 use Rattle.sample_rows.specs.Streamed.{yetToCome, PulledRight, linesAfter, begunIn}
 use Rattle.samples.specs.Streamed.{checkedWith, spanned}
-use Rattle.samples.specs.Chunks.{joined, Feeds, Pulls, leftAt, rowsThen}
+use Rattle.rules.specs.Chunks.{joined, Feeds}
+use Rattle.samples.specs.Chunks.{Pulls, leftAt, rowsThen}
 use Rattle.sheet_stages.proofs.StageLaws.{refused-read}
 
 -- what a call of `feed` owes, in its contract's words

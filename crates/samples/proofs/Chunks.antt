@@ -22,7 +22,8 @@ use Rattle.samples.specs.declared.check.Checked.{Checked}
 use Rattle.sheet_stages.specs.ToCome.{mostPlace, placed, fileRows, answerOf, isRefused}
 use Rattle.sample_rows.specs.Streamed.{yetToCome, PulledRight, endingOf}
 use Rattle.samples.specs.Streamed.{sheetSpan, checkedWith, checkedOf}
-use Rattle.samples.specs.Chunks.{joined, Feeds, Pulls, leftAt, rowsThen}
+use Rattle.rules.specs.Chunks.{joined, Feeds}
+use Rattle.samples.specs.Chunks.{Pulls, leftAt, rowsThen}
 use Rattle.sheet_stages.proofs.PlaceBound.{file-place}
 use Rattle.sample_rows.proofs.LineLaws.{file-answer}
 use Rattle.samples.proofs.CheckLaws.{span-place, span-judged}

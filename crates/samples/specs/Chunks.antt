@@ -1,4 +1,4 @@
--- A file that comes in any list of chunks, empty ones included: the calls one after the other, of which only what `One` says is
+-- Rows pulled out of any list of chunks, empty ones included: the calls one after the other, of which only what `One` says is
 -- known. `proofs/Chunks.antt` has the theorems, and there `One` is what the function's own contract ensures.
 use Prim.Native.Nat.{ℕ}
 use mathlib.Core.Path.{_≡_}
@@ -8,18 +8,8 @@ use Rattle.rules.specs.declared.samples.Sample.{Sample}
 use Rattle.sheet_stages.specs.declared.stage.Found.{Found}
 use Rattle.sample_rows.specs.declared.reader.SampleReader.{SampleReader}
 use Rattle.sample_rows.specs.declared.reader.Pulled.{Pulled}
-use Rattle.samples.specs.declared.check.SampleCheck.{SampleCheck}
+use Rattle.rules.specs.Chunks.{joined}
 use Rattle.sheet_stages.specs.ToCome.{RowsRead}
-
--- the file: its chunks one after the other
-unfoldable pub joined : List (List ℕ) → List ℕ
-joined [] = []
-joined (chunk ∷ chunks) = chunk ++ joined chunks
-
--- the chunks are fed one by one, from the first check to the last
-pub data Feeds (One : SampleCheck → List ℕ → SampleCheck → Type 0) : SampleCheck → List (List ℕ) → SampleCheck → Type 0 where
-  none : {c : SampleCheck} → Feeds One c [] c
-  more : {c d last : SampleCheck} {chunk : List ℕ} {chunks : List (List ℕ)} → One c chunk d → Feeds One d chunks last → Feeds One c (chunk ∷ chunks) last
 
 -- rows are pulled from a place of the first chunk on: after a row the same chunk is read on, and where there is none, the next one
 pub data Pulls (One : SampleReader → List ℕ → ℕ → Pulled → Type 0) : SampleReader → ℕ → List (List ℕ) → List Sample → SampleReader → Type 0 where

@@ -22,16 +22,15 @@ use Rattle.rules.specs.Bytes.{AreBytes, SliceHeld}
 use Rattle.rules.specs.Answers.{Answer, accepted, refused}
 use Rattle.rules.specs.StationFile.{stationFile}
 use Rattle.rules.specs.Run.{secondsAsked, printed}
-use Rattle.intake.specs.declared.station_bytes.StationBytes.{StationBytes}
-use Rattle.intake.specs.Arrivals as arrivals
-use Rattle.intake.specs.Stations.{stationWith}
-use Rattle.intake.proofs.StationChunks as stations
+use Rattle.station.specs.declared.chunks.StationBytes.{StationBytes}
+use Rattle.station.specs.Stations.{stationWith}
+use Rattle.station.proofs.StationChunks as stations
 use Rattle.samples.specs.declared.check.Span.{Span}
 use Rattle.samples.specs.declared.check.SampleCheck.{SampleCheck}
 use Rattle.samples.specs.declared.check.Checked.{Checked}
 use Rattle.sheet_stages.specs.ToCome.{mostPlace}
 use Rattle.samples.specs.Streamed.{sheetSpan, checkedOf}
-use Rattle.samples.specs.Chunks.{joined, Feeds}
+use Rattle.rules.specs.Chunks.{joined, Feeds}
 use Rattle.samples.proofs.CheckLaws.{span-place}
 use Rattle.samples.proofs.Chunks as checks
 use Rattle.simulation.specs.declared.state.Phase.{Phase}
@@ -95,9 +94,9 @@ checked-for (accepted st) checked samples e = e
 checked-for (refused n p) checked samples e = tt
 
 module _ (chunks : List (List ℕ)) (asked : List ℕ) (f₀ f : StationBytes) (v : Checked) (s : Simulation)
-    (begun : stations.Begun f₀) (fed : arrivals.Feeds stations.Fed f₀ chunks f) (b : BegunBy f v asked s) where
+    (begun : stations.Begun f₀) (fed : Feeds stations.Fed f₀ chunks f) (b : BegunBy f v asked s) where
   abbrev station : List ℕ
-  station = arrivals.joined chunks
+  station = joined chunks
 
   begun-with : BegunAs (stationFile station) (checkedOf v) (secondsAsked asked) s
   begun-with = subst (λ (a : Answer Station). BegunAs a (checkedOf v) (secondsAsked asked) s) (stations.station-of-chunks chunks f₀ f begun fed) (begun-owes f v asked s b)

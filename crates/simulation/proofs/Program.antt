@@ -7,7 +7,7 @@ use native.Mathlib.Omega.{arith}
 use lib.ListN.{length, take, drop, length-append, drop-of-length-le}
 use Rattle.rules.specs.declared.run.Inputs.{Inputs}
 use Rattle.rules.specs.Bytes.{SliceHeld}
-use Rattle.samples.specs.Chunks.{joined}
+use Rattle.rules.specs.Chunks.{joined}
 use Rattle.course.proofs.Started.{coming-length}
 use Rattle.simulation.specs.declared.state.Phase.{Phase}
 use Rattle.simulation.specs.declared.state.Simulation.{Simulation}

@@ -2,14 +2,14 @@
 ghost use mathlib.Core.List.{[]};
 ghost use Rattle.rules.specs.Run.{secondsAsked};
 ghost use Rattle.samples.specs.Streamed.{checkedOf};
-ghost use Rattle.intake.specs.Stations.{stationWith};
+ghost use Rattle.station.specs.Stations.{stationWith};
 ghost use Rattle.simulation.specs.Begin.{BegunAs};
 use crate::state::Phase;
 use crate::state::Simulation;
 use course::begin::course_of;
-use intake::station_bytes::StationBytes;
 use rules::answers::Verdict;
 use samples::check::Checked;
+use station::chunks::StationBytes;
 
 // The run, once both files have come to their end: before its heading, or with a refusal that is all that is printed.
 pub fn begin(file: StationBytes, checked: Checked, asked: &[u8]) -> Simulation

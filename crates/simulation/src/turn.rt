@@ -16,7 +16,7 @@ use crate::state::Phase;
 use crate::state::Turn;
 use crate::state::Wants;
 use course::state::set_count;
-use rules::limits::MOST_SETS;
+use station_fields::ranges;
 use words::arithmetic::lesser;
 
 // The rest of the file is passed by, so that whoever reads it sees all of its bytes.
@@ -51,7 +51,7 @@ fn set_turn(t: Turn, place: usize, out: &mut [u8]) -> Turn
 {
     let simulation = t.simulation;
     let course = simulation.course;
-    let existing = lesser(set_count(course), MOST_SETS);
+    let existing = lesser(set_count(course), ranges::SETS_MOST);
     if place < existing {
         return line_turn(t, out);
     }

@@ -1,29 +1,21 @@
--- The checks of a file one after the other: size, table of contents, values; and those of 25. Assumes nothing.
-use Prim.Native.Nat.{ℕ, _+_, _≤_, _<_}
-use mathlib.Core.Path.{_≡_, refl, sym, ap, _∙_}
-use mathlib.Core.Bool.{Bool, true, false, _&&_}
+-- The checks of a file one after the other: size, table of contents, values. Assumes nothing.
+use Prim.Native.Nat.{ℕ, _+_, _*_, _≤_, _<_}
+use mathlib.Core.Path.{_≡_, sym, ap, _∙_}
+use mathlib.Core.Bool.{true, false}
 use mathlib.Core.List.{List}
 use native.Mathlib.Omega.{arith}
-use lib.Dec.{leb, eqb}
-use lib.ListN.{length, drop}
+use lib.Dec.{eqb}
+use lib.ListN.{length}
 use borrow.Author.Tests.{lt-leb}
 use Rattle.rules.specs.declared.answers.Refusal.{Refusal}
 use Rattle.rules.specs.declared.answers.Verdict.{Verdict}
 use Rattle.rules.specs.declared.answers.Verdict.the-variants.{Accepted, Refused}
-use Rattle.rules.specs.declared.station.Station.{Station}
-use Rattle.rules.specs.Numbers.{within, every, allZero}
+use Rattle.rules.specs.Numbers.{within}
 use Rattle.rules.specs.Answers.{accepted, refused, judged, valueOr, verdictOf}
-use Rattle.rules.specs.StationRecord.{noStation, valuesRight, setUnused, someFileGives}
-use Rattle.rules.proofs.Tests.{both, within-fact, fact-within}
+use Rattle.rules.specs.StationRecord.{noStation, valuesRight}
+use Rattle.rules.proofs.Tests.{within-fact, fact-within, over-range}
 use Rattle.rules.proofs.StationRead.{contents}
 use Rattle.rules.specs.StationFile.{countAt, configsOffset, entryRight, recordOf, contentsRight, stationFile}
-
-above-range : (least most n : ℕ) → most < n → within least most n ≡ false
-above-range least most n h = go (leb least n) (leb n most) (lt-leb n most h)
-  where
-    go : (a b : Bool) → b ≡ false → a && b ≡ false
-    go true b e = e
-    go false b e = refl
 
 module _ (s : List ℕ) where
   pub too-short : length s < 165 → refused 1 0 ≡ contentsRight s
@@ -32,7 +24,7 @@ module _ (s : List ℕ) where
 
   pub too-long : 676 < length s → refused 1 0 ≡ contentsRight s
   unfolding contentsRight
-  too-long l = rw (above-range 165 676 (length s) l)
+  too-long l = rw (over-range 165 676 (length s) l)
 
   module _ (least : 165 ≤ length s) (most : length s ≤ 676) where
     size : within 165 676 (length s) ≡ true
@@ -66,6 +58,10 @@ module _ (s : List ℕ) where
             unfolding contentsRight
             contents-in-order e = rw (size, first, second, third, fourth, e)
 
+-- how long a file is by the counts that were read, a byte for each configuration
+pub size-by-counts : (s : List ℕ) (sets configs : ℕ) → sets ≡ countAt s 2 → configs ≡ countAt s 3 → configsOffset sets + 1 * configs ≡ configsOffset (countAt s 2) + countAt s 3
+size-by-counts s sets configs e f = let one : 1 * configs ≡ configs = omega arith in rw (one, e, f)
+
 -- what the counts of a file in order are, and how long it is
 pub contents-fit : (s : List ℕ) → contentsRight s ≡ accepted tt
     → (countAt s 2 ≤ 8) × (countAt s 3 ≤ 64) × (165 ≤ length s) × (length s ≡ configsOffset (countAt s 2) + countAt s 3)
@@ -74,11 +70,6 @@ contents-fit s h =
     let n = within-fact 1 8 (countAt s 2) (c .sets-in-range) in
     let m = within-fact 1 64 (countAt s 3) (c .configs-in-range) in
     (n .1, m .1, omega (arith, n .0, m .0, c .size), c .size)
-
--- so many sets and configurations has the record
-pub counts-read : (s : List ℕ) → contentsRight s ≡ accepted tt → (recordOf s .setcount ≤ 8) × (recordOf s .configcount ≤ 64)
-unfolding recordOf
-counts-read s h = let f = contents-fit s h in (f .0, f .1)
 
 -- ---- the whole file: its contents, then its values
 
@@ -98,23 +89,3 @@ module _ (s : List ℕ) (v : Verdict) (contents-are : verdictOf v ≡ contentsRi
     pub file-read : w ≡ Accepted → (accepted tt ≡ judged (stationFile s)) × (recordOf s ≡ valueOr noStation (stationFile s))
     unfolding stationFile
     file-read e = (rw (contents-passed passed, ← values-are, e), rw (contents-passed passed, ← values-are, e))
-
--- ---- 25
-
-pub counts-range : (n m : ℕ) → within 1 8 n && within 1 64 m ≡ true → (n ≤ 8) × (m ≤ 64)
-counts-range n m h = let t = both (within 1 8 n) (within 1 64 m) h in (within-fact 1 8 n (t .0) .1, within-fact 1 64 m (t .1) .1)
-
-module _ (st : Station) where
-  pub counts-first : within 1 8 (st .setcount) && within 1 64 (st .configcount) ≡ false → false ≡ someFileGives st
-  unfolding someFileGives
-  counts-first e = rw e
-
-  module _ (counts : within 1 8 (st .setcount) && within 1 64 (st .configcount) ≡ true) (v : Verdict) (values : verdictOf v ≡ valuesRight st) where
-    pub values-next : (r : Refusal) → v ≡ Refused r → false ≡ someFileGives st
-    unfolding someFileGives
-    values-next r e = rw (counts, ← values, e)
-
-    pub unused-last : (sets configs : Bool) → v ≡ Accepted → sets ≡ every setUnused (drop (st .setcount) (st .sets)) → configs ≡ allZero (drop (st .configcount) (st .configs))
-        → sets && configs ≡ someFileGives st
-    unfolding someFileGives
-    unused-last sets configs e p q = rw (counts, ← values, e, p, q)

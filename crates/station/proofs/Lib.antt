@@ -1,5 +1,6 @@
--- Laws that the code of this crate leans on, and those that its callers do.
-pub mod Orders
+-- Laws that the code of this crate leans on, those that its callers do, and the theorems over every list of chunks.
 pub mod Reading
 pub mod ContentsOrder
 pub mod FileAnswers
+pub mod StationLaws
+pub mod StationChunks

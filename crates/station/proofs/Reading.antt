@@ -9,7 +9,7 @@ use lib.ListN.{length, take, drop, getD, set, replicate, length-take, length-dro
 use lib.Seq.{drop-drop, set-at, append-snoc}
 use Rattle.rules.specs.Bytes.{little, littles}
 use Rattle.rules.specs.declared.station.GenSet.{GenSet}
-use Rattle.rules.specs.StationFile.{controlOf, batteryOf, setOf, setsOf}
+use Rattle.rules.specs.StationFile.{setOf, setsOf}
 use Rattle.words.proofs.LittleLaws.{little-part, little-turn}
 
 -- the number of a part that is as long as the number is wide
@@ -22,7 +22,7 @@ part-number s at width number fits w e l =
     ((rw k at e) ∙ little-part width 8 (drop at s) w, rw (k, n) at l)
 
 -- the number at place j of numbers one after the other
-pub littles-at : (width count j : ℕ) (s : List ℕ) → j < count → getD (littles width count s) j 0 ≡ little width (drop (width * j) s)
+littles-at : (width count j : ℕ) (s : List ℕ) → j < count → getD (littles width count s) j 0 ≡ little width (drop (width * j) s)
 unfolding littles
 littles-at width zero j s h = absurd (not-suc-le-zero h)
 littles-at width (suc count) zero s h = let e : width * 0 ≡ 0 = omega arith in rw e
@@ -30,56 +30,20 @@ littles-at width (suc count) (suc j) s h =
     let e : width + width * j ≡ width * suc j = omega arith in
     littles-at width count j (drop width s) (omega arith) ∙ ap (little width) (drop-drop (width * j) width s) ∙ ap (λ (n : ℕ). little width (drop n s)) e
 
--- ---- the bodies, number by number
+-- a number that is read at its own place is the one at place j of the body that starts at `body`
+pub number-in : (width count j body : ℕ) (s : List ℕ) → j < count → little width (drop (body + width * j) s) ≡ getD (littles width count (drop body s)) j 0
+number-in width count j body s h = sym (littles-at width count j (drop body s) h ∙ ap (little width) (drop-drop (width * j) body s))
 
-pub control-read : (ns ms : List ℕ) → ((j : ℕ) → j < 9 → getD ns j 0 ≡ getD ms j 0) → controlOf ns ≡ controlOf ms
-control-read ns ms h = λ i.
-    record {
-      spinning = h 0 (omega arith) i;
-      coverage = h 1 (omega arith) i;
-      minload = h 2 (omega arith) i;
-      shed = h 3 (omega arith) i;
-      delay = h 4 (omega arith) i;
-      k = h 5 (omega arith) i;
-      minseconds = h 6 (omega arith) i;
-      maintain = h 7 (omega arith) i;
-      online = h 8 (omega arith) i;
-    }
-
-pub battery-read : (ns ms ks ls : List ℕ) → ((j : ℕ) → j < 2 → getD ns j 0 ≡ getD ms j 0) → ((j : ℕ) → j < 3 → getD ks j 0 ≡ getD ls j 0)
-    → batteryOf ns ks ≡ batteryOf ms ls
-battery-read ns ms ks ls h g = λ i.
-    record {
-      power = h 0 (omega arith) i;
-      efficiency = h 1 (omega arith) i;
-      least = g 0 (omega arith) i;
-      most = g 1 (omega arith) i;
-      start = g 2 (omega arith) i;
-    }
-
--- the three contents of the battery, 8 bytes each
-pub contents-at : (s : List ℕ) (a b d : ℕ) → a ≡ little 8 (drop 76 s) → b ≡ little 8 (drop 84 s) → d ≡ little 8 (drop 92 s)
-    → (j : ℕ) → j < 3 → getD (a ∷ b ∷ d ∷ []) j 0 ≡ getD (littles 8 3 (drop 76 s)) j 0
-contents-at s a b d p q r j l = go j l ∙ sym (littles-at 8 3 j (drop 76 s) l ∙ ap (little 8) (drop-drop (8 * j) 76 s))
+-- the five that stand 8 bytes apart, from place j of a set on
+pub pairs-in : (j body : ℕ) (s : List ℕ) → j < 8
+    → let at = body + 4 * j in
+    let ns = littles 4 16 (drop body s) in
+    little 4 (drop at s) ∷ little 4 (drop (at + 8) s) ∷ little 4 (drop (at + 16) s) ∷ little 4 (drop (at + 24) s) ∷ little 4 (drop (at + 32) s) ∷ []
+    ≡ getD ns j 0 ∷ getD ns (j + 2) 0 ∷ getD ns (j + 4) 0 ∷ getD ns (j + 6) 0 ∷ getD ns (j + 8) 0 ∷ []
+pairs-in j body s h = λ i. number-in 4 16 j body s (omega arith) i ∷ next 2 (omega arith) i ∷ next 4 (omega arith) i ∷ next 6 (omega arith) i ∷ next 8 (omega arith) i ∷ []
   where
-    go : (j : ℕ) → j < 3 → getD (a ∷ b ∷ d ∷ []) j 0 ≡ little 8 (drop (76 + 8 * j) s)
-    go zero l = p
-    go (suc zero) l = q
-    go (suc (suc zero)) l = r
-    go (suc (suc (suc j))) l = absurd (omega (arith, l))
-
-pub set-read : (ns ms : List ℕ) → ((j : ℕ) → j < 16 → getD ns j 0 ≡ getD ms j 0) → setOf ns ≡ setOf ms
-set-read ns ms h = λ i.
-    record {
-      rating = h 0 (omega arith) i;
-      warmup = h 1 (omega arith) i;
-      cooldown = h 2 (omega arith) i;
-      interval = h 3 (omega arith) i;
-      service = h 4 (omega arith) i;
-      points = h 5 (omega arith) i;
-      loads = h 6 (omega arith) i ∷ h 8 (omega arith) i ∷ h 10 (omega arith) i ∷ h 12 (omega arith) i ∷ h 14 (omega arith) i ∷ [];
-      rates = h 7 (omega arith) i ∷ h 9 (omega arith) i ∷ h 11 (omega arith) i ∷ h 13 (omega arith) i ∷ h 15 (omega arith) i ∷ [];
-    }
+    next : (k : ℕ) → k ≤ 8 → little 4 (drop (body + 4 * j + 4 * k) s) ≡ getD (littles 4 16 (drop body s)) (j + k) 0
+    next k l = let e : body + 4 * j + 4 * k ≡ body + 4 * (j + k) = omega arith in rw e (number-in 4 16 (j + k) body s (omega arith))
 
 -- ---- a row of elements in an array whose rest is filled, one more a turn
 

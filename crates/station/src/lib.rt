@@ -1,8 +1,6 @@
-// A station: its file, and its record.
+// A station file: its bytes, at once or as they arrive, become a record, or the first refusal.
 mod bodies;
+pub mod chunks;
 mod contents;
-mod layout;
 mod numbers;
 pub mod reader;
-pub mod record;
-mod values;

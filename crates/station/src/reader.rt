@@ -6,11 +6,12 @@ ghost use Rattle.rules.specs.StationFile.{stationFile};
 use crate::bodies::no_set;
 use crate::bodies::record_of;
 use crate::contents::contents_right;
-use crate::values::values_right;
 use rules::answers::Verdict;
 use rules::station::Battery;
 use rules::station::Control;
 use rules::station::Station;
+use station_fields::ranges;
+use station_record::values::values_right;
 
 // The verdict on a file, and the record that it gives; where it is refused, the record of zeros.
 pub struct Reading {
@@ -45,8 +46,8 @@ pub fn no_station() -> Station
         battery,
         setcount: 0,
         configcount: 0,
-        sets: [none; 8],
-        configs: [0; 64],
+        sets: [none; ranges::SETS_MOST],
+        configs: [0; ranges::CONFIGURATIONS_MOST],
     }
 }
 

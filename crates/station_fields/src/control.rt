@@ -81,7 +81,8 @@ pub const MAINTAIN: Field = Field {
     unit: *b"                          ",
 };
 
-// "mask of sets on line at the start, existing sets only": which sets exist is no range
+// "mask of sets on line at the start, existing sets only": the checks ask which sets exist, and not this range, which follows from it
+// where there are at most eight sets
 pub const ON_LINE: Field = Field {
     offset: 32,
     width: 4,

@@ -40,21 +40,51 @@ pub const CONFIGURATIONS_PART: Part = Part {
 
 pub const PARTS: [Part; 4] = [CONTROL_PART, BATTERY_PART, SETS_PART, CONFIGURATIONS_PART];
 
+// The places of their entries in the table of contents, from 0.
+pub const CONTROL_ENTRY: usize = 0;
+
+pub const BATTERY_ENTRY: usize = 1;
+
+pub const SETS_ENTRY: usize = 2;
+
+pub const CONFIGURATIONS_ENTRY: usize = 3;
+
+pub const ENTRIES: usize = 4;
+
 // "kind (2 bytes), count (2), offset (4)"
 pub const ENTRY_SIZE: usize = 8;
 
+pub const ENTRY_KIND: usize = 0;
+
+pub const ENTRY_KIND_WIDTH: usize = 2;
+
 pub const ENTRY_COUNT: usize = 2;
+
+pub const ENTRY_COUNT_WIDTH: usize = 2;
 
 pub const ENTRY_OFFSET: usize = 4;
 
+pub const ENTRY_OFFSET_WIDTH: usize = 4;
+
 // "So offsets are 32, 68, 100 and 100 + 64 x sets"
-pub const CONTROL_AT: usize = 4 * ENTRY_SIZE;
+pub const CONTROL_AT: usize = ENTRIES * ENTRY_SIZE;
 
 pub const BATTERY_AT: usize = CONTROL_AT + CONTROL_PART.size;
 
 pub const SETS_AT: usize = BATTERY_AT + BATTERY_PART.size;
 
 pub const SET_SIZE: usize = SETS_PART.size;
+
+pub const CONFIGURATION_SIZE: usize = CONFIGURATIONS_PART.size;
+
+// "a file has 165 to 676 bytes": with the fewest and with the most sets and configurations
+pub const LEAST_FILE: usize = SETS_AT
+    + SET_SIZE * SETS_PART.least as usize
+    + CONFIGURATION_SIZE * CONFIGURATIONS_PART.least as usize;
+
+pub const MOST_FILE: usize = SETS_AT
+    + SET_SIZE * SETS_PART.most as usize
+    + CONFIGURATION_SIZE * CONFIGURATIONS_PART.most as usize;
 
 // The pairs of a set's fuel curve stand after its other numbers.
 pub const PAIRS_OFFSET: usize = 24;

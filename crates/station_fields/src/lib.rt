@@ -5,3 +5,5 @@ pub mod control;
 pub mod field;
 pub mod genset;
 pub mod layout;
+pub mod places;
+pub mod ranges;

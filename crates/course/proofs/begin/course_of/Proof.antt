@@ -3,7 +3,7 @@ use mathlib.Core.Path.{ap}
 use mathlib.Core.List.{[]}
 use denote.Ref.{now}
 use Rattle.rules.specs.Run.{secondsAsked}
-use Rattle.intake.specs.Stations.{stationWith}
+use Rattle.station.specs.Stations.{stationWith}
 use Rattle.samples.specs.Streamed.{checkedOf}
 use Rattle.course.proofs.BeginLaws.{station-refused, samples-refused, all-accepted}
 use borrow.Author.Needs.{needs}

@@ -2,7 +2,7 @@
 use mathlib.Core.List.{[]}
 use denote.Ref.{now}
 use Rattle.rules.specs.Run.{secondsAsked}
-use Rattle.intake.specs.Stations.{stationWith}
+use Rattle.station.specs.Stations.{stationWith}
 use Rattle.samples.specs.Streamed.{checkedOf}
 use Rattle.simulation.proofs.BeginLaws.{begun-accepted, begun-refused}
 use borrow.Author.Needs.{needs}

@@ -1,6 +1,6 @@
 -- `station::bodies::configurations_of` meets its contract. Assumes nothing.
 use borrow.Author.Needs.{needs}
-use Prim.Native.Nat.{ℕ, _+_, _-_, _*_, _≤_}
+use Prim.Native.Nat.{_+_, _-_, _*_, _≤_}
 use mathlib.Core.Path.{_≡_, refl, sym, ap, _∙_}
 use mathlib.Core.List.{_++_}
 use native.Mathlib.Omega.{arith}
@@ -21,6 +21,9 @@ abbrev μ-loop : tie.MeasureT-loop
 loop-holds : tie.Need-loop-holds Inv-loop μ-loop
 unfolding littles
 loop-holds c = (omega arith, search needs, search needs, refl)
+
+mul-configs : tie.Need-mul-configs Inv-loop μ-loop
+mul-configs c = search needs
 
 add-configs : tie.Need-add-configs Inv-loop μ-loop
 add-configs c = search needs
@@ -43,8 +46,7 @@ loop-again c =
     let a = at .before .args in
     let s = a .s .now in
     let i = at .loop .inv in
-    let e : a .at + 1 * at .loop .i ≡ a .at + at .loop .i = omega arith in
-    let v = byte-at s (a .at + at .loop .i) (omega (arith, i .2)) ∙ ap (little 1) (sym (drop-drop (1 * at .loop .i) (a .at) s ∙ ap (λ (k : ℕ). drop k s) e)) in
+    let v = byte-at s (a .at + 1 * at .loop .i) (omega (arith, i .2)) ∙ ap (little 1) (sym (drop-drop (1 * at .loop .i) (a .at) s)) in
     (omega arith, i .1, i .2, rw (i .3, v) (row-turn (littles 1 (at .loop .i) (drop (a .at) s)) _ _ 0 (at .loop .i) 64 (length-littles 1 (at .loop .i) (drop (a .at) s)) (search needs) (littles-more 1 (at .loop .i) (drop (a .at) s))))
 
 returns : tie.Need-returns Inv-loop μ-loop
@@ -60,6 +62,7 @@ configurations-of-spec =
     Inv-loop
     μ-loop
     loop-holds
+    mul-configs
     add-configs
     shared-slice-read-configs
     array-write-configs

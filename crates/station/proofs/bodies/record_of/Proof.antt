@@ -12,11 +12,11 @@ use borrow.Author.Needs.{needs}
 use Rattle.station.proofs.bodies.record_of.Statement.{statement}
 use Rattle.station.proofs.bodies.record_of.Tie as tie
 
-number-at-requires : tie.Need-number-at-requires
-number-at-requires c κs = let s = c .before .args .s .now in let f = contents-fit s (c .before .pre) in (omega (arith, f .2), omega arith)
+count-at-requires : tie.Need-count-at-requires
+count-at-requires c κs = let s = c .before .args .s .now in let f = contents-fit s (c .before .pre) in (omega (arith, f .2), omega arith)
 
-number-at-requires-2 : tie.Need-number-at-requires-2
-number-at-requires-2 c κs = let a = c .before .before in let f = contents-fit (a .args .s .now) (a .pre) in (omega (arith, f .2), omega arith)
+count-at-requires-2 : tie.Need-count-at-requires-2
+count-at-requires-2 c κs = let a = c .before .before in let f = contents-fit (a .args .s .now) (a .pre) in (omega (arith, f .2), omega arith)
 
 control-of-requires : tie.Need-control-of-requires
 control-of-requires c κs = let a = c .before .before .before in contents-fit (a .args .s .now) (a .pre) .2
@@ -29,7 +29,7 @@ sets-of-requires c κs =
     let n = c .before .before .before in
     let a = n .before .before in
     let f = contents-fit (a .args .s .now) (a .pre) in
-    let e = n .number-at .ensures .0 in
+    let e = n .count-at .ensures .0 in
     (rw e (f .0), rw e (omega (arith, f .3)))
 
 mul-configurations-of : tie.Need-mul-configurations-of
@@ -44,7 +44,7 @@ configurations-of-requires c κs =
     let n = m .before in
     let a = n .before .before in
     let f = contents-fit (a .args .s .now) (a .pre) in
-    (rw (m .number-at2 .ensures .0) (f .1), rw (m .number-at2 .ensures .0, n .number-at .ensures .0) (omega (arith, f .3)))
+    (rw (m .count-at2 .ensures .0) (f .1), rw (m .count-at2 .ensures .0, n .count-at .ensures .0) (omega (arith, f .3)))
 
 returns : tie.Need-returns
 unfolding recordOf
@@ -52,8 +52,8 @@ returns c =
     let m = c .before .before .before .before in
     let n = m .before in
     let s = n .before .before .args .s .now in
-    let sets-read = n .number-at .ensures .0 in
-    let configs-read = m .number-at2 .ensures .0 in
+    let sets-read = n .count-at .ensures .0 in
+    let configs-read = m .count-at2 .ensures .0 in
     let sets = c .before .sets-of .ensures ∙ ap (λ (k : ℕ). setsOf k (drop 100 s) ++ replicate (8 - k) noSet) sets-read in
     let configs = c .configurations-of .ensures ∙ ap₂ (λ (j k : ℕ). littles 1 k (drop (configsOffset j) s) ++ replicate (64 - k) 0) sets-read configs-read in
     λ i. record {
@@ -69,8 +69,8 @@ pub record-of-spec : {M : Type 1} → statement M
 record-of-spec =
     tie.close
     (tie.spec
-    number-at-requires
-    number-at-requires-2
+    count-at-requires
+    count-at-requires-2
     control-of-requires
     battery-of-requires
     sets-of-requires

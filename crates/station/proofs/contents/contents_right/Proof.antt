@@ -1,12 +1,12 @@
 -- `station::contents::contents_right` meets its contract. Assumes nothing.
 use Prim.Native.Nat.{ℕ, _+_}
-use mathlib.Core.Path.{_≡_, sym, ap, ap₂, _∙_}
+use mathlib.Core.Path.{_≡_, sym, ap, _∙_}
 use mathlib.Core.Bool.{true}
 use mathlib.Core.List.{List}
 use lib.ListN.{length}
 use borrow.Author.Tests.{not-true, not-false, eq-eqb, ne-eqb}
 use Rattle.rules.specs.StationFile.{countAt, configsOffset, entryRight}
-use Rattle.station.proofs.ContentsOrder.{too-short, too-long, entry-1, entry-2, entry-3, entry-4, size-last, contents-in-order}
+use Rattle.station.proofs.ContentsOrder.{too-short, too-long, entry-1, entry-2, entry-3, entry-4, size-last, contents-in-order, size-by-counts}
 use borrow.Author.Needs.{needs}
 use Rattle.station.proofs.contents.contents_right.Statement.{statement}
 use Rattle.station.proofs.contents.contents_right.Tie as tie
@@ -28,7 +28,7 @@ third c = sym (c .before .entry-right3 .ensures) ∙ not-false _ (c .if5 .left)
 -- the offset of the configurations is that of the sets that the contents name
 fourth-is : (c : tie.After-entry-right4)
     → c .entry-right4 .result ≡ entryRight (file (c .before .before .before .before .before .before .before .before)) 3 4 1 64 (configsOffset (countAt (file (c .before .before .before .before .before .before .before .before)) 2))
-fourth-is c = c .entry-right4 .ensures ∙ ap (λ (n : ℕ). entryRight (file (c .before .before .before .before .before .before .before .before)) 3 4 1 64 (configsOffset n)) (c .before .number-at .ensures .0)
+fourth-is c = c .entry-right4 .ensures ∙ ap (λ (n : ℕ). entryRight (file (c .before .before .before .before .before .before .before .before)) 3 4 1 64 (configsOffset n)) (c .before .count-at .ensures .0)
 
 returns : tie.Need-returns
 returns c = too-short (c .before .before .args .s .now) (search needs)
@@ -59,14 +59,14 @@ returns-5 c =
     let one = two .before .before in
     entry-3 (file (one .before .before)) (search needs) (search needs) (first one) (second two) (sym (c .before .entry-right3 .ensures) ∙ not-true _ (c .if5 .taken))
 
-number-at-requires : tie.Need-number-at-requires
-number-at-requires c κs = search needs
+count-at-requires : tie.Need-count-at-requires
+count-at-requires c κs = search needs
 
-mul-configs-offset : tie.Need-mul-configs-offset
-mul-configs-offset c = search needs
+mul-configs-at : tie.Need-mul-configs-at
+mul-configs-at c = search needs
 
-add-configs-offset : tie.Need-add-configs-offset
-add-configs-offset c = search needs
+add-configs-at : tie.Need-add-configs-at
+add-configs-at c = search needs
 
 entry-right-requires-4 : tie.Need-entry-right-requires-4
 entry-right-requires-4 c κs = search needs
@@ -78,8 +78,11 @@ returns-6 c =
     let one = two .before .before in
     entry-4 (file (one .before .before)) (search needs) (search needs) (first one) (second two) (third three) (sym (fourth-is (c .before)) ∙ not-true _ (c .if6 .taken))
 
-number-at-requires-2 : tie.Need-number-at-requires-2
-number-at-requires-2 c κs = search needs
+count-at-requires-2 : tie.Need-count-at-requires-2
+count-at-requires-2 c κs = search needs
+
+mul-if7 : tie.Need-mul-if7
+mul-if7 c = search needs
 
 add-if7 : tie.Need-add-if7
 add-if7 c = search needs
@@ -92,7 +95,7 @@ returns-7 c =
     let one = two .before .before in
     let s = file (one .before .before) in
     size-last s (search needs) (search needs) (first one) (second two) (third three) (sym (fourth-is (four .before)) ∙ not-false _ (four .if6 .left))
-    (ne-eqb (length s) (configsOffset (countAt s 2) + countAt s 3) (λ z. c .if7 .taken (z ∙ ap₂ (λ (m n : ℕ). configsOffset m + n) (sym (four .before .before .number-at .ensures .0)) (sym (c .before .number-at2 .ensures .0)))))
+    (ne-eqb (length s) (configsOffset (countAt s 2) + countAt s 3) (λ z. c .if7 .taken (z ∙ sym (size-by-counts s _ _ (four .before .before .count-at .ensures .0) (c .before .count-at2 .ensures .0)))))
 
 returns-8 : tie.Need-returns-8
 returns-8 c =
@@ -102,7 +105,7 @@ returns-8 c =
     let one = two .before .before in
     let s = file (one .before .before) in
     contents-in-order s (search needs) (search needs) (first one) (second two) (third three) (sym (fourth-is (four .before)) ∙ not-false _ (four .if6 .left))
-    (eq-eqb (length s) (configsOffset (countAt s 2) + countAt s 3) (c .if7 .left ∙ ap₂ (λ (m n : ℕ). configsOffset m + n) (four .before .before .number-at .ensures .0) (c .before .number-at2 .ensures .0)))
+    (eq-eqb (length s) (configsOffset (countAt s 2) + countAt s 3) (c .if7 .left ∙ size-by-counts s _ _ (four .before .before .count-at .ensures .0) (c .before .count-at2 .ensures .0)))
 
 pub contents-right-spec : {M : Type 1} → statement M
 contents-right-spec =
@@ -116,12 +119,13 @@ contents-right-spec =
     returns-4
     entry-right-requires-3
     returns-5
-    number-at-requires
-    mul-configs-offset
-    add-configs-offset
+    count-at-requires
+    mul-configs-at
+    add-configs-at
     entry-right-requires-4
     returns-6
-    number-at-requires-2
+    count-at-requires-2
+    mul-if7
     add-if7
     returns-7
     returns-8)

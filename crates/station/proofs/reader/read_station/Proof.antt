@@ -2,7 +2,7 @@
 use mathlib.Core.Path.{ap, _∙_}
 use Rattle.rules.specs.Answers.{verdictOf}
 use Rattle.rules.specs.StationRecord.{valuesRight}
-use Rattle.station.proofs.ContentsOrder.{counts-read, contents-refused, contents-passed, values-refused, file-read}
+use Rattle.station.proofs.ContentsOrder.{contents-refused, contents-passed, values-refused, file-read}
 use borrow.Author.Needs.{needs}
 use Rattle.station.proofs.reader.read_station.Statement.{statement}
 use Rattle.station.proofs.reader.read_station.Tie as tie
@@ -32,10 +32,7 @@ record-of-requires c κs =
     contents-passed (contents .before .before .args .s .now) _ (contents .contents-right .ensures) (c .enum-told .given .1)
 
 values-right-requires : tie.Need-values-right-requires
-values-right-requires c κs =
-    let contents = c .before .before .before in
-    let s = contents .before .before .args .s .now in
-    rw (c .record-of .ensures) (counts-read s (contents-passed s _ (contents .contents-right .ensures) (c .before .enum-told .given .1)))
+values-right-requires c κs = search needs
 
 enum-told-3 : tie.Need-enum-told-3
 enum-told-3 c = search needs

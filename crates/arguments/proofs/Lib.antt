@@ -1,0 +1,3 @@
+-- Laws of the seconds asked.
+pub mod AskedLaws
+pub mod SecondsAsked

@@ -1,0 +1,2 @@
+// The arguments that a program is given.
+pub mod seconds;

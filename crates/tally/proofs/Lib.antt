@@ -1,0 +1,3 @@
+-- Laws of the tally, and the theorems over every list of chunks.
+pub mod TallyLaws
+pub mod TallyChunks

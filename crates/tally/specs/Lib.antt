@@ -1,0 +1,2 @@
+-- The tally of a pass over a file.
+pub mod Tally
