@@ -111,6 +111,8 @@ def is_right(found, span):
     m = re.fullmatch(r'(\w+) (%s)' % name, span)
     if m and is_crate(found, m.group(1)):
         return of_crate(found, m.group(1), m.group(2))
+    if m and re.search(r'[_A-Z-]', m.group(2)) and anywhere(found, m.group(2)):
+        return False  # a name of ours behind a word that is no crate
     if re.fullmatch(r'[\w./*-]*/[\w./*-]*', span) and re.search(r'\w', span):
         return there(found, span.removeprefix('./'))
     return True
@@ -135,7 +137,7 @@ def must_tell():
     cases = [
         ('`Flows.floorLoad`, `words Laws.the-law`, `words::masks::next_set(mask)`, `words an_edit`, `floorLoad`, `README.md`, `docs/`', 0),
         ('`Flows.floorload`', 1), ('`words Laws.law`', 1), ('`rules Laws.the-law`', 1), ('`Laws.the-law`', 0),
-        ('`words::masks::next`', 1), ('`words other_edit`', 1), ('`gone`', 1), ('`docs/GONE.md`', 1), ('`gone(mask)`', 1),
+        ('`words::masks::next`', 1), ('`words other_edit`', 1), ('`gone an_edit`', 1), ('`gone`', 1), ('`docs/GONE.md`', 1), ('`gone(mask)`', 1),
     ]
     for page, faults in cases:
         told = faults_of(found, page)
