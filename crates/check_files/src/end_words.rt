@@ -3,27 +3,25 @@ use crate::turns::Ended;
 use check_machine::line_search::Sought;
 use check_machine::state::Held;
 use exchange::action::Word;
-use explain::columns::MOST_HELD;
-use explain::line_words::say_fault;
-use explain::line_words::say_rule;
-use explain::line_words::say_unseen;
-use explain::plain_words::count_of;
-use explain::plain_words::number;
-use explain::plain_words::say;
-use explain::station_faults::say_station_fault;
-use explain::station_words::say_station_file;
-use explain::titles::say_sheet_title;
-use explain::titles::say_station_title;
+use explain::faults::say_fault;
+use explain::rights::say_right;
+use explain_sheet::columns::MOST_HELD;
+use explain_sheet::line_faults::say_unseen;
+use explain_station::as_read::say_station;
 use files::source::Program;
 use files::why::say_why;
+use plain_words::numbers::count_of;
+use plain_words::numbers::number;
+use plain_words::texts::say;
+use refusal_words::places::Place;
+use refusal_words::places::place_of;
+use refusal_words::places::say_subject;
+use refusal_words::titles::say_title;
 use rules::answers::Refusal;
 use samples::check::Checked;
 use samples::check::Span;
 use samples::check::finish;
 use words::refusals::number_and_place;
-
-// The last number that refuses a station file.
-const LAST_OF_STATION: u64 = 8;
 
 // The most bytes of a station file that are held.
 const MOST_STATION: usize = 677;
@@ -47,7 +45,7 @@ fn say_station_held(bytes: [u8; 677], len: usize) {
     if MOST_STATION < len {
         return;
     }
-    say_station_file(&bytes[..len]);
+    say_station(&bytes[0..len]);
 }
 
 fn accept(held: Held) {
@@ -61,30 +59,24 @@ fn accept(held: Held) {
     say_checked(finish(check));
 }
 
-fn say_fault_held(fault: u64, place: u64, bytes: [u8; 677], len: usize, size: usize) {
+fn say_station_fault(refusal: Refusal, bytes: [u8; 677], len: usize, size: usize) {
     if MOST_STATION < len {
         return;
     }
-    say_station_fault(fault, place, &bytes[..len], size);
+    say_fault(refusal, &bytes[0..len], size, b"", b"");
 }
 
-fn refuse_station(fault: u64, place: u64, held: Held) {
+fn refuse_station(refusal: Refusal, held: Held) {
     let judging = held.judging;
     let files = judging.held;
     let file = files.file;
     let bytes = file.bytes;
-    say(b"check: the station file is refused with the number ");
-    number(fault);
-    say(b": ");
-    say_station_title(fault);
-    say(b".\n");
-    say_fault_held(fault, place, bytes, file.len, files.size);
+    say_station_fault(refusal, bytes, file.len, files.size);
     say(b"check: the sample file was not looked at.\n");
 }
 
-fn say_fault_in(
-    fault: u64,
-    place: u64,
+fn say_line_fault(
+    refusal: Refusal,
     first: [u8; 513],
     first_len: usize,
     text: [u8; 513],
@@ -96,46 +88,44 @@ fn say_fault_in(
     if MOST_HELD < len {
         return;
     }
-    say_fault(fault, place, &first[..first_len], &text[..len]);
+    say_fault(refusal, b"", 0, &first[0..first_len], &text[0..len]);
 }
 
 // The line itself, and the heading line for the names of its cells; neither is there where the file cannot be read again, as a pipe
 // cannot.
-fn say_line_of(fault: u64, place: u64, heading: Sought, line: Sought) {
-    if !(heading.found & line.found) {
-        say_unseen(place);
+fn refuse_line(refusal: Refusal, line: u64, heading: Sought, refused: Sought) {
+    if !(heading.found & refused.found) {
+        say_unseen(line);
         return;
     }
     let first = heading.text;
-    let text = line.text;
-    say_fault_in(fault, place, first, heading.len, text, line.len);
+    let text = refused.text;
+    say_line_fault(refusal, first, heading.len, text, refused.len);
 }
 
-fn refuse_sheet(fault: u64, place: u64, held: Held) {
-    say(b"check: the sample file is refused with the number ");
-    number(fault);
+fn say_refused(refusal: Refusal, place: Place) {
+    let answer = number_and_place(refusal);
+    say(b"check: ");
+    say_subject(place);
+    say(b" is refused with the number ");
+    number(answer.0);
     say(b": ");
-    say_sheet_title(fault);
+    say_title(refusal);
     say(b".\n");
-    if place == 0 {
-        say_rule(fault);
-        return;
-    }
-    let heading = held.heading;
-    let line = held.line;
-    say_line_of(fault, place, heading, line);
-    say_rule(fault);
 }
 
 fn refuse(refusal: Refusal, held: Held) {
-    let answer = number_and_place(refusal);
-    let fault = answer.0;
-    let place = answer.1;
-    if fault <= LAST_OF_STATION {
-        refuse_station(fault, place, held);
-        return;
+    let place = place_of(refusal);
+    let heading = held.heading;
+    let line = held.line;
+    say_refused(refusal, place);
+    match place {
+        Place::StationFile | Place::Entry(_) | Place::Set(_) => refuse_station(refusal, held),
+        Place::Configuration(_) => refuse_station(refusal, held),
+        Place::Line(count) => refuse_line(refusal, count, heading, line),
+        Place::SampleFile | Place::Seconds | Place::Call => {}
     }
-    refuse_sheet(fault, place, held);
+    say_right(refusal);
 }
 
 pub(crate) fn say_end(ended: Ended, paths: &[u8]) {

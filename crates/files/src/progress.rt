@@ -3,8 +3,8 @@ ghost use mathlib.Core.Path.{_≡_};
 ghost use Prim.Native.Nat.{_/_, max};
 use crate::source::Program;
 use crate::source::say_name;
-use explain::plain_words::number;
-use explain::plain_words::say;
+use plain_words::numbers::number;
+use plain_words::texts::say;
 
 // Each further 256 MB are told.
 const TOLD_EACH: u64 = 256_000_000;

@@ -1,6 +1,6 @@
 // The programs and the two files by their names, and what to say where a file cannot be opened or read.
-use explain::plain_words::say;
-use explain::plain_words::show_path;
+use plain_words::shown::show_path;
+use plain_words::texts::say;
 
 // Who speaks: each message begins with the program's name.
 pub enum Program {

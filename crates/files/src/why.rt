@@ -8,10 +8,10 @@ use crate::source::say_unopened;
 use crate::source::say_unread;
 use crate::source::say_which;
 use exchange::action::Why;
-use explain::plain_words::say;
-use explain::plain_words::show_path;
 use perform::Files;
 use perform::path_end;
+use plain_words::shown::show_path;
+use plain_words::texts::say;
 
 // The place of the sample file among the arguments.
 const SAMPLES: usize = 2;

@@ -4,12 +4,12 @@ ghost use lib.ListN.{length};
 use exchange::action::Action;
 use exchange::action::BUFFER_END;
 use exchange::event::Event;
-use explain::plain_words::say;
-use explain::plain_words::show_path;
 use perform::Files;
 use perform::no_files;
 use perform::path_end;
 use perform::perform;
+use plain_words::shown::show_path;
+use plain_words::texts::say;
 
 // The place of the station file among the arguments, and of its path among the paths.
 const STATION: usize = 2;

@@ -1,12 +1,12 @@
 // What is told at the end: to whoever reads standard error in words, and to bin/run, since a program has no exit status of its own.
-use crate::refusal_words::say_refusal;
+use crate::refusal_line::say_refusal;
 use crate::turns::Ended;
 use exchange::action::Why;
 use exchange::action::Word;
-use explain::plain_words::say;
 use files::source::Program;
 use files::why::say_why;
 use perform::Files;
+use plain_words::texts::say;
 
 // The place of the sample file among the arguments.
 const SAMPLES: usize = 2;

@@ -3,5 +3,5 @@
 mod end_words;
 pub mod program;
 mod progress;
-mod refusal_words;
+mod refusal_line;
 mod turns;

@@ -1,0 +1,2 @@
+-- What a clerk is told of a refusal's place.
+pub mod Places
