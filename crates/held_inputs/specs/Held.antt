@@ -202,6 +202,14 @@ fillStateAt columns lines now x next seconds = record { begun = record { stage =
 abbrev pub filledAt : FillState → List ℕ → Filled
 filledAt t line = record { source = record { reader = readerAt (t .begun) line; now = t .now; ahead = t .ahead }; next = t .next; seconds = t .seconds }
 
+-- where the chunk ends before the next second is told
+abbrev pub filledShort : Reached → SampleReader → ℕ → ℕ → Filled
+filledShort q m seconds next = record { source = record { reader = m; now = q .now; ahead = q .ahead }; next = next; seconds = seconds }
+
+-- where it is told
+abbrev pub toldAt : Reached → ℕ → FillState
+toldAt q seconds = record { begun = q .begun; now = q .now; ahead = q .ahead; next = q .next; seconds = seconds }
+
 -- what is owed of the seconds told so far, whether or not others can be told
 pub record Filling (s : InputSource) (second : ℕ) (chunk : List ℕ) (at : ℕ) (loads₀ solars₀ sheddables₀ : List ℕ) (r : Filled) (loads solars sheddables : List ℕ) : Type 0 where
   pub inputs : (rest : List ℕ) → HeldOn (s .now) (sourceRows s (drop at chunk ++ rest)) second r (sourceRows (r .source) (drop (r .next) chunk ++ rest)) loads solars sheddables

@@ -1,11 +1,13 @@
 // What each second of a run is handed, of a sample file that comes in chunks of any length: "A row holds until the next."
 ghost use mathlib.Core.Path.{_≡_};
-ghost use Prim.Native.Nat.{ℕ, _≤_};
+ghost use Prim.Native.Nat.{ℕ, _+_, _≤_, _<_};
 ghost use mathlib.Core.Bool.{true, false};
-ghost use mathlib.Core.List.{List};
+ghost use mathlib.Core.List.{List, _++_};
+ghost use lib.ListN.{length, drop, set};
 ghost use Rattle.rules.specs.SampleFile.{beforeAll};
-ghost use Rattle.sheet_stages.specs.ToCome.{fileRows};
-ghost use Rattle.held_inputs.specs.Held.{sourceRows, sourceEnded, sourceRefused, lastComesIn, comesIn, aheadAtEnd, readerAt, filledAt, ReachedRight, FilledRight, EndedRight};
+ghost use Rattle.sheet_stages.specs.ToCome.{toCome, fileRows};
+ghost use Rattle.sample_rows.specs.Streamed.{linesAfter, begunIn, yetToCome};
+ghost use Rattle.held_inputs.specs.Held.{sourceRows, sourceEnded, sourceRefused, lastComesIn, comesIn, aheadAtEnd, readerAt, filledAt, filledShort, toldAt, placesOf, ReachedRight, FilledRight, EndedRight};
 use crate::usual_seconds::FillState;
 use crate::usual_seconds::fill_begun;
 use crate::usual_seconds::usual_seconds;
@@ -130,21 +132,16 @@ fn comes_in(held: Sample, ahead: Ahead, second: usize) -> InForce
     }
 }
 
-// The row in force at a second, with as many rows of the chunk as it takes.
-fn reach(
-    begun: Begun,
-    line: &[u8; 512],
-    held: Sample,
-    ahead: Ahead,
-    second: usize,
-    chunk: &[u8],
-    at: usize,
-) -> Reached
-    ensures { λ r. ⌜ ReachedRight begun (now (line .entry)) held ahead second (now (chunk .entry)) at r ⌝ }
+// The row in force at a second after those that were told, with as many rows of the chunk as it takes.
+fn reach(told: FillState, line: &[u8; 512], second: usize, chunk: &[u8]) -> Reached
+    ensures { λ r. ⌜ ReachedRight (told .begun) (now (line .entry)) (told .now) (told .ahead) second (now (chunk .entry)) (told .next) r ⌝ }
 {
+    let begun = told.begun;
+    let held = told.now;
+    let ahead = told.ahead;
     let mut stage = begun.stage;
     let mut len = begun.len;
-    let mut next = lesser(at, chunk.len());
+    let mut next = lesser(told.next, chunk.len());
     let mut known = comes_in(held, ahead, second);
     while known.unread {
         let further = next_row(stage, line, len, chunk, next);
@@ -236,6 +233,51 @@ fn filled_at(told: FillState, line: [u8; 512]) -> Filled
     }
 }
 
+// The chunk ends before the next second is told, so that its last bytes are kept.
+fn filled_short(reached: Reached, line: [u8; 512], seconds: usize, chunk: &[u8]) -> Filled
+    requires { ⌜ reached .next ≤ length (now chunk) ⌝ }
+    ensures { λ r. ⌜ r ≡ filledShort reached (r .source .reader) seconds (length (now (chunk .entry))) ⌝ }
+    ensures { λ r. ⌜ ((rest : List ℕ) → yetToCome (r .source .reader) rest ≡ toCome (reached .begun .stage) (linesAfter (begunIn (readerAt (reached .begun) line) ++ drop (reached .next) (now (chunk .entry))) rest)) ⌝ }
+{
+    let begun = reached.begun;
+    let now = reached.now;
+    let ahead = reached.ahead;
+    let next = reached.next;
+    let reader = kept(reader_at(begun, line), &chunk[next..]);
+    Filled {
+        source: InputSource { reader, now, ahead },
+        next: chunk.len(),
+        seconds,
+    }
+}
+
+// One second more, at the place `i` of each slice.
+fn second_told(
+    reached: Reached,
+    i: usize,
+    loads: &mut [u32],
+    solars: &mut [u32],
+    sheddables: &mut [u32],
+) -> FillState
+    requires { ⌜ i < placesOf (now loads) (now solars) (now sheddables) ⌝ }
+    ensures { λ r. ⌜ r ≡ toldAt reached (i + 1) ⌝ }
+    ensures { λ r. ⌜ (now (loads .exit) ≡ set (now (loads .entry)) i (reached .now .load)) × (now (solars .exit) ≡ set (now (solars .entry)) i (reached .now .solar)) × (now (sheddables .exit) ≡ set (now (sheddables .entry)) i (reached .now .sheddable)) ⌝ }
+{
+    let begun = reached.begun;
+    let now = reached.now;
+    let ahead = reached.ahead;
+    loads[i] = now.load;
+    solars[i] = now.solar;
+    sheddables[i] = now.sheddable;
+    FillState {
+        begun,
+        now,
+        ahead,
+        next: reached.next,
+        seconds: i + 1,
+    }
+}
+
 // The seconds of a file that is not refused; `first` is the first of them. The usual ones go on in numbers, and any other is reached.
 fn fill_seconds(
     source: InputSource,
@@ -259,32 +301,11 @@ fn fill_seconds(
         if places <= i {
             return filled_at(usual, line);
         }
-        let rows = usual.ahead;
-        let next = usual.next;
-        let reached = reach(usual.begun, &line, usual.now, rows, first + i, chunk, next);
-        let begun = reached.begun;
-        let now = reached.now;
-        let ahead = reached.ahead;
-        let next = reached.next;
+        let reached = reach(usual, &line, first + i, chunk);
         if !reached.told {
-            let reader = kept(reader_at(begun, line), &chunk[next..]);
-            return Filled {
-                source: InputSource { reader, now, ahead },
-                next: chunk.len(),
-                seconds: i,
-            };
+            return filled_short(reached, line, i, chunk);
         }
-        loads[i] = now.load;
-        solars[i] = now.solar;
-        sheddables[i] = now.sheddable;
-        let seconds = i + 1;
-        told = FillState {
-            begun,
-            now,
-            ahead,
-            next,
-            seconds,
-        };
+        told = second_told(reached, i, loads, solars, sheddables);
     }
     filled_at(told, line)
 }

@@ -1,15 +1,12 @@
 -- `held_inputs::inputs::fill_seconds` meets its contract: the seconds so far are told, and the others are told by what is left. Assumes nothing.
 use Prim.Native.Nat.{ℕ, _-_}
-use mathlib.Core.Path.{_≡_, refl, sym, ap, _∙_}
-use mathlib.Core.List.{List, _++_}
+use mathlib.Core.Path.{_≡_, refl, ap, _∙_}
 use native.Mathlib.Omega.{arith}
-use lib.ListN.{drop}
 use borrow.Author.Needs.{needs}
 use borrow.Author.Tests.{not-true, not-false}
-use Rattle.sample_rows.specs.declared.reader.SampleReader.{SampleReader}
-use Rattle.sample_rows.specs.Streamed.{yetToCome}
+use Rattle.held_inputs.specs.declared.usual_seconds.FillState.{FillState}
 use Rattle.held_inputs.specs.Held.{placesOf, readerAt, filledAt, Filling}
-use Rattle.sample_rows.proofs.LineLaws.{kept-whole, at-end-of}
+use Rattle.sample_rows.proofs.LineLaws.{kept-on}
 use Rattle.held_inputs.proofs.FillLaws.{filling-start, filling-more, filled, filled-short}
 use Rattle.held_inputs.proofs.inputs.fill_seconds.Statement.{statement}
 use Rattle.held_inputs.proofs.inputs.fill_seconds.Tie as tie
@@ -39,7 +36,9 @@ loop-holds c =
     (rw (c .before .before .before .before .lesser2 .ensures, c .before .before .before .before .before .lesser .ensures), rw (c .fill-begun .ensures) (filling-start (a .source) (a .first) (a .chunk .now) (a .at) (a .loads .now) (a .solars .now) (a .sheddables .now) _ (c .before .lesser3 .ensures)))
 
 usual-seconds-requires : tie.Need-usual-seconds-requires Inv-loop μ-loop
-usual-seconds-requires c κs = (c .before .before .before .before .before .before .before .before .before .before .before .before .before .before .before .before .pre .0, omega (arith, c .before .before .before .before .before .loop .inv .0, c .before .before .before .before .before .loop .inv .1 .keptLoads .size, c .before .before .before .before .before .loop .inv .1 .keptSolars .size, c .before .before .before .before .before .loop .inv .1 .keptSheddables .size))
+usual-seconds-requires c κs =
+    let l = c .before .before .before .before .before .loop .inv in
+    (c .before .before .before .before .before .before .before .before .before .before .before .before .before .before .before .before .pre .0, omega (arith, l .0, l .1 .keptLoads .size, l .1 .keptSolars .size, l .1 .keptSheddables .size))
 
 filled-at-requires : tie.Need-filled-at-requires Inv-loop μ-loop
 filled-at-requires c κs = search needs
@@ -56,8 +55,7 @@ same-length-3 c = c .before .before .before .before .before .before .before .bef
 returns : tie.Need-returns Inv-loop μ-loop
 returns c =
     let a = c .before .before .before .before .before .before .before .before .before .before .before .before .before .before .before .before .before .before .before .before .before .before .before .before .before .args in
-    let line = a .source .reader .line in
-    let g = c .before .before .before .before .before .before .before .before .usual-seconds .ensures .filling (a .source) (a .at) (a .loads .now) (a .solars .now) (a .sheddables .now) line (c .before .before .before .before .before .before .before .before .before .before .before .before .before .before .loop .inv .0) (rw (c .before .before .before .before .before .before .before .before .before .before .before .before .before .before .before .fill-begun .ensures) at (c .before .before .before .before .before .before .before .before .before .before .before .before .before .before .loop .inv .1)) in
+    let g = c .before .before .before .before .before .before .before .before .usual-seconds .ensures .filling (a .source) (a .at) (a .loads .now) (a .solars .now) (a .sheddables .now) (a .source .reader .line) (c .before .before .before .before .before .before .before .before .before .before .before .before .before .before .loop .inv .0) (rw (c .before .before .before .before .before .before .before .before .before .before .before .before .before .before .before .fill-begun .ensures) at (c .before .before .before .before .before .before .before .before .before .before .before .before .before .before .loop .inv .1)) in
     rw (c .filled-at .ensures) (filled (a .source) (a .first) (a .chunk .now) (a .at) (a .loads .now) (a .solars .now) (a .sheddables .now) _ _ _ _ g (c .before .before .before .before .before .before .before .before .before .before .before .before .before .before .before .before .before .before .before .before .before .before .before .before .before .pre .1) (omega (arith, c .before .if2 .taken, c .before .before .before .before .before .before .before .before .before .before .before .before .before .before .loop .inv .0)))
 
 add-reach : tie.Need-add-reach Inv-loop μ-loop
@@ -66,76 +64,48 @@ add-reach c = record { fits = omega (arith, c .before .before .before .before .b
 reach-requires : tie.Need-reach-requires Inv-loop μ-loop
 reach-requires c κs = search needs
 
-reader-at-requires : tie.Need-reader-at-requires Inv-loop μ-loop
-reader-at-requires c κs = search needs
-
-sub-kept : tie.Need-sub-kept Inv-loop μ-loop
-sub-kept c = search needs
-
-part-kept-start : tie.Need-part-kept-start Inv-loop μ-loop
-part-kept-start c = search needs
-
-part-kept-end : tie.Need-part-kept-end Inv-loop μ-loop
-part-kept-end c = search needs
-
-kept-requires : tie.Need-kept-requires Inv-loop μ-loop
-kept-requires c κs = search needs
+filled-short-requires : tie.Need-filled-short-requires Inv-loop μ-loop
+filled-short-requires c κs = c .before .before .reach .ensures .within
 
 same-length-4 : tie.Need-same-length-4 Inv-loop μ-loop
-same-length-4 c = c .before .before .before .before .before .before .before .before .before .before .before .before .before .before .before .before .usual-seconds .ensures .sameLoads ∙ c .before .before .before .before .before .before .before .before .before .before .before .before .before .before .before .before .before .before .before .before .before .before .loop .inv .1 .keptLoads .size
+same-length-4 c = c .before .before .before .before .before .before .before .before .before .before .before .before .usual-seconds .ensures .sameLoads ∙ c .before .before .before .before .before .before .before .before .before .before .before .before .before .before .before .before .before .before .loop .inv .1 .keptLoads .size
 
 same-length-5 : tie.Need-same-length-5 Inv-loop μ-loop
-same-length-5 c = c .before .before .before .before .before .before .before .before .before .before .before .before .before .before .before .before .usual-seconds .ensures .sameSolars ∙ c .before .before .before .before .before .before .before .before .before .before .before .before .before .before .before .before .before .before .before .before .before .before .loop .inv .1 .keptSolars .size
+same-length-5 c = c .before .before .before .before .before .before .before .before .before .before .before .before .usual-seconds .ensures .sameSolars ∙ c .before .before .before .before .before .before .before .before .before .before .before .before .before .before .before .before .before .before .loop .inv .1 .keptSolars .size
 
 same-length-6 : tie.Need-same-length-6 Inv-loop μ-loop
-same-length-6 c = c .before .before .before .before .before .before .before .before .before .before .before .before .before .before .before .before .usual-seconds .ensures .sameSheddables ∙ c .before .before .before .before .before .before .before .before .before .before .before .before .before .before .before .before .before .before .before .before .before .before .loop .inv .1 .keptSheddables .size
+same-length-6 c = c .before .before .before .before .before .before .before .before .before .before .before .before .usual-seconds .ensures .sameSheddables ∙ c .before .before .before .before .before .before .before .before .before .before .before .before .before .before .before .before .before .before .loop .inv .1 .keptSheddables .size
 
 returns-2 : tie.Need-returns-2 Inv-loop μ-loop
 returns-2 c =
-    let a = c .before .before .before .before .before .before .before .before .before .before .before .before .before .before .before .before .before .before .before .before .before .before .before .before .before .before .before .before .before .before .before .before .before .args in
-    let s = a .chunk .now in
+    let a = c .before .before .before .before .before .before .before .before .before .before .before .before .before .before .before .before .before .before .before .before .before .before .before .before .before .before .before .before .before .args in
     let line = a .source .reader .line in
-    let usual = c .before .before .before .before .before .before .before .before .before .before .before .before .before .before .before .before .usual-seconds .result in
-    let q = c .before .before .before .before .before .before .before .reach .result in
-    let g = c .before .before .before .before .before .before .before .before .before .before .before .before .before .before .before .before .usual-seconds .ensures .filling (a .source) (a .at) (a .loads .now) (a .solars .now) (a .sheddables .now) line (c .before .before .before .before .before .before .before .before .before .before .before .before .before .before .before .before .before .before .before .before .before .before .loop .inv .0) (rw (c .before .before .before .before .before .before .before .before .before .before .before .before .before .before .before .before .before .before .before .before .before .before .before .fill-begun .ensures) at (c .before .before .before .before .before .before .before .before .before .before .before .before .before .before .before .before .before .before .before .before .before .before .loop .inv .1)) in
-    let told = not-true _ (c .before .before .before .if3 .taken) in
-    let keeps : (rest : List ℕ) → yetToCome (readerAt (q .begun) line) (drop (q .next) s ++ rest) ≡ yetToCome (c .kept .result) rest =
-    λ rest. ap (λ (m : SampleReader). yetToCome m (drop (q .next) s ++ rest)) (sym (c .before .before .reader-at .ensures))
-    ∙ kept-whole s (q .next) (c .before .before .reader-at .result) (c .kept .result) rest (c .before .before .before .before .before .before .before .reach .ensures .further told) (c .kept .ensures) ∙ at-end-of s (c .kept .result) rest in
-    filled-short (a .source) (a .first) (a .chunk .now) (a .at) (a .loads .now) (a .solars .now) (a .sheddables .now) (filledAt usual line) _ _ _ g (usual .begun) line refl q (c .before .before .before .before .before .before .before .reach .ensures) (c .kept .result) keeps told (c .before .before .before .before .before .before .before .before .before .before .before .before .before .before .before .before .before .before .before .before .before .before .before .before .before .before .before .before .before .before .before .before .before .pre .1) (omega (arith, c .before .before .before .before .before .before .before .before .before .if2 .left, c .before .before .before .before .before .before .before .before .before .before .before .before .before .before .before .before .before .before .before .before .before .before .loop .inv .0))
+    let usual = c .before .before .before .before .before .before .before .before .before .before .before .before .usual-seconds .result in
+    let q = c .before .before .before .reach .result in
+    let m = c .filled-short .result .source .reader in
+    let g = c .before .before .before .before .before .before .before .before .before .before .before .before .usual-seconds .ensures .filling (a .source) (a .at) (a .loads .now) (a .solars .now) (a .sheddables .now) line (c .before .before .before .before .before .before .before .before .before .before .before .before .before .before .before .before .before .before .loop .inv .0) (rw (c .before .before .before .before .before .before .before .before .before .before .before .before .before .before .before .before .before .before .before .fill-begun .ensures) at (c .before .before .before .before .before .before .before .before .before .before .before .before .before .before .before .before .before .before .loop .inv .1)) in
+    let told = not-true _ (c .before .if3 .taken) in
+    let keeps = kept-on (readerAt (q .begun) line) m _ (c .before .before .before .reach .ensures .further told) (c .filled-short .ensures .1) in
+    rw (c .filled-short .ensures .0) (filled-short (a .source) (a .first) (a .chunk .now) (a .at) (a .loads .now) (a .solars .now) (a .sheddables .now) (filledAt usual line) _ _ _ g (usual .begun) line refl q (c .before .before .before .reach .ensures) m keeps told (c .before .before .before .before .before .before .before .before .before .before .before .before .before .before .before .before .before .before .before .before .before .before .before .before .before .before .before .before .before .pre .1) (omega (arith, c .before .before .before .before .before .if2 .left, c .before .before .before .before .before .before .before .before .before .before .before .before .before .before .before .before .before .before .loop .inv .0)))
 
-mul-loads : tie.Need-mul-loads Inv-loop μ-loop
-mul-loads c = record { fits = omega (arith, c .before .before .before .before .before .before .if2 .left, c .before .before .before .before .before .before .before .before .before .before .before .before .before .before .before .before .before .before .before .loop .inv .0, c .before .before .before .before .before .before .before .before .before .before .before .before .before .before .before .before .before .before .before .before .before .before .before .before .before .before .before .before .before .before .good .1 .1 .1 .1 .0) }
-
-slice-write-loads : tie.Need-slice-write-loads Inv-loop μ-loop
-slice-write-loads c = omega (arith, c .before .before .before .before .before .before .if2 .left, c .before .before .before .before .before .before .before .before .before .before .before .before .before .before .before .before .before .before .before .loop .inv .0, c .before .before .before .before .before .before .before .before .before .before .before .before .before .usual-seconds .ensures .sameLoads, c .before .before .before .before .before .before .before .before .before .before .before .before .before .before .before .before .before .before .before .loop .inv .1 .keptLoads .size)
-
-mul-solars : tie.Need-mul-solars Inv-loop μ-loop
-mul-solars c = record { fits = omega (arith, c .before .before .before .before .before .before .if2 .left, c .before .before .before .before .before .before .before .before .before .before .before .before .before .before .before .before .before .before .before .loop .inv .0, c .before .before .before .before .before .before .before .before .before .before .before .before .before .before .before .before .before .before .before .before .before .before .before .before .before .before .before .before .before .before .good .1 .1 .1 .1 .0) }
-
-slice-write-solars : tie.Need-slice-write-solars Inv-loop μ-loop
-slice-write-solars c = omega (arith, c .before .before .before .before .before .before .if2 .left, c .before .before .before .before .before .before .before .before .before .before .before .before .before .before .before .before .before .before .before .loop .inv .0, c .before .before .before .before .before .before .before .before .before .before .before .before .before .usual-seconds .ensures .sameSolars, c .before .before .before .before .before .before .before .before .before .before .before .before .before .before .before .before .before .before .before .loop .inv .1 .keptSolars .size)
-
-mul-sheddables : tie.Need-mul-sheddables Inv-loop μ-loop
-mul-sheddables c = record { fits = omega (arith, c .before .before .before .before .before .before .if2 .left, c .before .before .before .before .before .before .before .before .before .before .before .before .before .before .before .before .before .before .before .loop .inv .0, c .before .before .before .before .before .before .before .before .before .before .before .before .before .before .before .before .before .before .before .before .before .before .before .before .before .before .before .before .before .before .good .1 .1 .1 .1 .0) }
-
-slice-write-sheddables : tie.Need-slice-write-sheddables Inv-loop μ-loop
-slice-write-sheddables c = omega (arith, c .before .before .before .before .before .before .if2 .left, c .before .before .before .before .before .before .before .before .before .before .before .before .before .before .before .before .before .before .before .loop .inv .0, c .before .before .before .before .before .before .before .before .before .before .before .before .before .usual-seconds .ensures .sameSheddables, c .before .before .before .before .before .before .before .before .before .before .before .before .before .before .before .before .before .before .before .loop .inv .1 .keptSheddables .size)
-
-add-seconds : tie.Need-add-seconds Inv-loop μ-loop
-add-seconds c = record { fits = omega (arith, c .before .before .before .before .before .before .if2 .left, c .before .before .before .before .before .before .before .before .before .before .before .before .before .before .before .before .before .before .before .loop .inv .0, c .before .before .before .before .before .before .before .before .before .before .before .before .before .before .before .before .before .before .before .before .before .before .before .before .before .before .before .before .before .before .good .1 .1 .1 .1 .0) }
+second-told-requires : tie.Need-second-told-requires Inv-loop μ-loop
+second-told-requires c κs =
+    let l = c .before .before .before .before .before .before .before .before .before .before .before .before .before .before .before .before .before .before .before .before .loop .inv in
+    let u = c .before .before .before .before .before .before .before .before .before .before .before .before .before .before .usual-seconds .ensures in
+    omega (arith, c .before .before .before .before .before .before .before .if2 .left, l .0, l .1 .keptLoads .size, l .1 .keptSolars .size, l .1 .keptSheddables .size, u .sameLoads, u .sameSolars, u .sameSheddables)
 
 loop-less : tie.Need-loop-less Inv-loop μ-loop
-loop-less c = omega (arith, c .before .before .before .before .before .before .if2 .left, c .before .before .before .before .before .before .before .before .before .before .before .before .before .usual-seconds .ensures .onward)
+loop-less c = let e = ap (λ (t : FillState). t .seconds) (c .before .before .before .before .before .before .second-told .ensures .0) in omega (arith, e, c .before .before .before .before .before .before .before .before .before .before .before .before .before .before .if2 .left, c .before .before .before .before .before .before .before .before .before .before .before .before .before .before .before .before .before .before .before .before .before .usual-seconds .ensures .onward)
 
 loop-again : tie.Need-loop-again Inv-loop μ-loop
 loop-again c =
-    let a = c .before .before .before .before .before .before .before .before .before .before .before .before .before .before .before .before .before .before .before .before .before .before .before .before .before .before .before .before .before .before .args in
+    let a = c .before .before .before .before .before .before .before .before .before .before .before .before .before .before .before .before .before .before .before .before .before .before .before .before .before .before .before .before .before .before .before .before .before .before .before .before .before .before .args in
     let line = a .source .reader .line in
-    let usual = c .before .before .before .before .before .before .before .before .before .before .before .before .before .usual-seconds .result in
-    let from = filledAt (c .before .before .before .before .before .before .before .before .before .before .before .before .before .before .before .before .before .before .before .before .fill-begun .result) line .source in
-    let g = c .before .before .before .before .before .before .before .before .before .before .before .before .before .usual-seconds .ensures .filling from (a .at) (a .loads .now) (a .solars .now) (a .sheddables .now) line (c .before .before .before .before .before .before .before .before .before .before .before .before .before .before .before .before .before .before .before .loop .inv .0) (c .before .before .before .before .before .before .before .before .before .before .before .before .before .before .before .before .before .before .before .loop .inv .1) in
-    (c .before .before .before .before .before .before .before .before .before .before .before .before .before .before .before .before .before .before .before .loop .inv .0, filling-more from (a .first) (a .chunk .now) (a .at) (a .loads .now) (a .solars .now) (a .sheddables .now) (filledAt usual line) _ _ _ g (usual .begun) line refl (c .before .before .before .before .reach .result) (c .before .before .before .before .reach .ensures) (not-false _ (c .if3 .left)) (omega (arith, c .before .before .before .before .before .before .if2 .left, c .before .before .before .before .before .before .before .before .before .before .before .before .before .before .before .before .before .before .before .loop .inv .0)))
+    let usual = c .before .before .before .before .before .before .before .before .before .before .before .before .before .before .before .before .before .before .before .before .before .usual-seconds .result in
+    let from = filledAt (c .before .before .before .before .before .before .before .before .before .before .before .before .before .before .before .before .before .before .before .before .before .before .before .before .before .before .before .before .fill-begun .result) line .source in
+    let g = c .before .before .before .before .before .before .before .before .before .before .before .before .before .before .before .before .before .before .before .before .before .usual-seconds .ensures .filling from (a .at) (a .loads .now) (a .solars .now) (a .sheddables .now) line (c .before .before .before .before .before .before .before .before .before .before .before .before .before .before .before .before .before .before .before .before .before .before .before .before .before .before .before .loop .inv .0) (c .before .before .before .before .before .before .before .before .before .before .before .before .before .before .before .before .before .before .before .before .before .before .before .before .before .before .before .loop .inv .1) in
+    let s = c .before .before .before .before .before .before .second-told .ensures in
+    (c .before .before .before .before .before .before .before .before .before .before .before .before .before .before .before .before .before .before .before .before .before .before .before .before .before .before .before .loop .inv .0, rw (s .0, s .1 .0, s .1 .1, s .1 .2) (filling-more from (a .first) (a .chunk .now) (a .at) (a .loads .now) (a .solars .now) (a .sheddables .now) (filledAt usual line) _ _ _ g (usual .begun) line refl (c .before .before .before .before .before .before .before .before .before .before .before .before .reach .result) (c .before .before .before .before .before .before .before .before .before .before .before .before .reach .ensures) (not-false _ (c .before .before .before .before .before .before .before .before .before .before .if3 .left)) (omega (arith, c .before .before .before .before .before .before .before .before .before .before .before .before .before .before .if2 .left, c .before .before .before .before .before .before .before .before .before .before .before .before .before .before .before .before .before .before .before .before .before .before .before .before .before .before .before .loop .inv .0))))
 
 filled-at-requires-2 : tie.Need-filled-at-requires-2 Inv-loop μ-loop
 filled-at-requires-2 c κs = search needs
@@ -173,22 +143,12 @@ fill-seconds-spec =
     returns
     add-reach
     reach-requires
-    reader-at-requires
-    sub-kept
-    part-kept-start
-    part-kept-end
-    kept-requires
+    filled-short-requires
     same-length-4
     same-length-5
     same-length-6
     returns-2
-    mul-loads
-    slice-write-loads
-    mul-solars
-    slice-write-solars
-    mul-sheddables
-    slice-write-sheddables
-    add-seconds
+    second-told-requires
     loop-less
     loop-again
     filled-at-requires-2
