@@ -7,7 +7,7 @@ ghost use Rattle.samples.specs.Streamed.{checkedOf};
 ghost use Rattle.intake.specs.Stations.{stationWith};
 ghost use Rattle.course.specs.Begin.{Refuses, Starting, BegunAs, AskedAs};
 use crate::state::Course;
-use held_inputs::inputs::inputs;
+use input_source::source::inputs;
 use intake::asked::seconds_asked;
 use intake::station_bytes::StationBytes;
 use intake::station_bytes::station_of;
