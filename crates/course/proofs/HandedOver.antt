@@ -7,7 +7,7 @@ use lib.ListN.{length, take, getD, set, length-set, length-take}
 use lib.Seq.{take-suc-set}
 use Rattle.rules.specs.declared.run.Inputs.{Inputs}
 use Rattle.rules.specs.Seconds.{inputsEach}
-use Rattle.held_inputs.specs.Held.{inputsIn}
+use Rattle.held_inputs.specs.Filling.{inputsIn}
 
 -- ---- one second more, of the one slice and of the three
 

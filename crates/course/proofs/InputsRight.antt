@@ -11,7 +11,8 @@ use Rattle.rules.specs.declared.samples.Sample.{Sample}
 use Rattle.rules.specs.Numbers.{if_then_else_}
 use Rattle.rules.specs.SampleFile.{holding}
 use Rattle.rules.specs.Run.{inputsOf}
-use Rattle.held_inputs.specs.Held.{heldFrom, inputsIn}
+use Rattle.rows_in_force.specs.Held.{heldFrom}
+use Rattle.held_inputs.specs.Filling.{inputsIn}
 use Rattle.course.specs.Ruled.{Right, AllRight, none, more}
 use Rattle.course.specs.Coming.{inputsAll}
 

@@ -16,13 +16,15 @@ use Rattle.rules.specs.Answers.{isAccepted}
 use Rattle.rules.specs.Seconds.{inputsEach, numbersOf, WorkedSeconds, cameTo, Seconds}
 use Rattle.dispatch.specs.Working.{rowsOf, runAfter}
 use Rattle.dispatch.proofs.Working.{rows-count}
-use Rattle.held_inputs.specs.declared.inputs.InputSource.{InputSource}
-use Rattle.held_inputs.specs.declared.inputs.Filled.{Filled}
+use Rattle.input_source.specs.declared.source.InputSource.{InputSource}
+use Rattle.held_inputs.specs.declared.fill.Filled.{Filled}
 use Rattle.sheet_stages.specs.ToCome.{RowsRead, allRead}
-use Rattle.held_inputs.specs.Held.{sourceRows, sourceEnded, heldFrom, inputsIn, placesOf, HeldOn, FilledRight, atEndOf, EndedRight}
+use Rattle.rows_in_force.specs.Held.{heldFrom}
+use Rattle.input_source.specs.Source.{sourceRows, sourceEnded, atEndOf, EndedRight}
+use Rattle.held_inputs.specs.Filling.{inputsIn, placesOf, HeldOn, FilledRight}
 use Rattle.sample_rows.proofs.LineLaws.{drop-least}
 use Rattle.sheet_stages.proofs.UpToRefused.{all-read}
-use Rattle.held_inputs.proofs.EndLaws.{source-accepted}
+use Rattle.input_source.proofs.EndLaws.{source-accepted}
 use Rattle.course.specs.declared.state.Course.{Course}
 use Rattle.course.specs.declared.state.Halt.{Halt}
 use Rattle.course.specs.declared.state.Moved.{Moved}

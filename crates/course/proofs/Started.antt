@@ -22,7 +22,8 @@ use Rattle.rules.proofs.SampleRows.{RowsRight}
 use Rattle.records.specs.NoRun.{noRun}
 use Rattle.records.proofs.StartTold.{start-accepted}
 use Rattle.sheet_stages.specs.ToCome.{placed, RowsRead, fileRows, allRead}
-use Rattle.held_inputs.specs.Held.{sourceRows, heldFrom}
+use Rattle.rows_in_force.specs.Held.{heldFrom}
+use Rattle.input_source.specs.Source.{sourceRows}
 use Rattle.sheet_stages.proofs.UpToRefused.{answer-all}
 use Rattle.sample_rows.proofs.LineLaws.{file-answer}
 use Rattle.held_inputs.proofs.RowsRight.{start-right, source-rows-right}

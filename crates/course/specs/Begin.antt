@@ -10,9 +10,9 @@ use Rattle.rules.specs.RunRecord.{start}
 use Rattle.rules.specs.SampleFile.{beforeAll}
 use Rattle.records.specs.NoRun.{noRun}
 use Rattle.samples.specs.declared.check.Span.{Span}
-use Rattle.held_inputs.specs.declared.inputs.Ahead.{Ahead}
+use Rattle.rows_in_force.specs.declared.in_force.Ahead.{Ahead}
 use Rattle.sheet_stages.specs.ToCome.{fileRows}
-use Rattle.held_inputs.specs.Held.{sourceRows}
+use Rattle.input_source.specs.Source.{sourceRows}
 use Rattle.course.specs.declared.state.Course.{Course}
 use Rattle.course.specs.declared.begin.Begun.{Begun}
 

@@ -10,7 +10,8 @@ use Rattle.rules.specs.RunRecord.{possible, mostSeconds}
 use Rattle.rules.specs.Run.{inputsOf}
 use Rattle.rules.proofs.Shapes.{Tables}
 use Rattle.sheet_stages.specs.ToCome.{allRead}
-use Rattle.held_inputs.specs.Held.{sourceRows, sourceEnded, heldFrom}
+use Rattle.rows_in_force.specs.Held.{heldFrom}
+use Rattle.input_source.specs.Source.{sourceRows, sourceEnded}
 use Rattle.course.specs.declared.state.Course.{Course}
 use Rattle.course.specs.Ruled.{AllRight}
 

@@ -8,8 +8,9 @@ use Rattle.rules.specs.declared.answers.Ended.{Ended}
 use Rattle.rules.specs.declared.run.Inputs.{Inputs}
 use Rattle.rules.specs.Seconds.{numbersOf, WorkedSeconds, cameTo}
 use Rattle.dispatch.specs.Working.{rowsOf, runAfter}
-use Rattle.held_inputs.specs.declared.inputs.InputSource.{InputSource}
-use Rattle.held_inputs.specs.Held.{sourceEnded, placesOf, EndedRight}
+use Rattle.input_source.specs.declared.source.InputSource.{InputSource}
+use Rattle.input_source.specs.Source.{sourceEnded, EndedRight}
+use Rattle.held_inputs.specs.Filling.{placesOf}
 use Rattle.course.specs.declared.state.Course.{Course}
 use Rattle.course.specs.declared.state.Halt.{Halt}
 use Rattle.course.specs.declared.state.Moved.{Moved}

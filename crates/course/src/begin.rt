@@ -8,7 +8,7 @@ ghost use Rattle.station.specs.Stations.{stationWith};
 ghost use Rattle.course.specs.Begin.{Refuses, Starting, BegunAs, AskedAs};
 use crate::state::Course;
 use arguments::seconds::seconds_asked;
-use held_inputs::inputs::inputs;
+use input_source::source::inputs;
 use records::start::start;
 use rules::answers::Amount;
 use rules::answers::Refusal;

@@ -1,6 +1,6 @@
 // The course of a run between two calls, by value.
 ghost use mathlib.Core.Path.{_≡_};
-use held_inputs::inputs::InputSource;
+use input_source::source::InputSource;
 use rules::run::Run;
 use rules::run::SetState;
 use rules::station::Station;

@@ -14,17 +14,19 @@ use Rattle.rules.specs.Answers.{isAccepted}
 use Rattle.rules.specs.Run.{inputsOf}
 use Rattle.rules.proofs.Tests.{never}
 use Rattle.sample_rows.specs.declared.reader.SampleReader.{SampleReader}
-use Rattle.held_inputs.specs.declared.inputs.Ahead.{Ahead}
-use Rattle.held_inputs.specs.declared.inputs.Begun.{Begun}
-use Rattle.held_inputs.specs.declared.inputs.InputSource.{InputSource}
-use Rattle.held_inputs.specs.declared.inputs.Filled.{Filled}
-use Rattle.held_inputs.specs.declared.inputs.Reached.{Reached}
+use Rattle.rows_in_force.specs.declared.in_force.Ahead.{Ahead}
+use Rattle.rows_in_force.specs.declared.in_force.Begun.{Begun}
+use Rattle.input_source.specs.declared.source.InputSource.{InputSource}
+use Rattle.held_inputs.specs.declared.fill.Filled.{Filled}
+use Rattle.rows_in_force.specs.declared.in_force.Reached.{Reached}
 use Rattle.sheet_stages.specs.ToCome.{RowsRead}
 use Rattle.sample_rows.specs.Streamed.{yetToCome}
-use Rattle.held_inputs.specs.Held.{rowsAhead, readerAt, sourceRows, sourceRefused, isRefusal, heldFrom, latest, inputsIn, AtSecond, ReachedRight, HeldOn, placesOf, KeptFrom, FilledRight, Filling}
+use Rattle.rows_in_force.specs.Held.{rowsAhead, readerAt, isRefusal, heldFrom, latest, AtSecond, ReachedRight}
+use Rattle.input_source.specs.Source.{sourceRows, sourceRefused}
+use Rattle.held_inputs.specs.Filling.{inputsIn, HeldOn, placesOf, KeptFrom, FilledRight, Filling}
 use Rattle.sample_rows.proofs.LineLaws.{drop-least}
-use Rattle.held_inputs.proofs.HeldLaws.{latest-none, latest-of, held-next}
-use Rattle.held_inputs.proofs.EndLaws.{nothing-left, for-good, no-refusal, refused-unread}
+use Rattle.rows_in_force.proofs.HeldLaws.{latest-none, latest-of, held-next}
+use Rattle.input_source.proofs.EndLaws.{nothing-left, for-good, no-refusal, refused-unread}
 
 -- ---- the slices
 

@@ -1,6 +1,4 @@
--- Laws of the rows in force, of the seconds told, and of the end of the file.
-pub mod HeldLaws
-pub mod EndLaws
+-- Laws of the seconds told, and of what they are handed.
 pub mod FillLaws
 pub mod UsualSeconds
 pub mod RowsRight

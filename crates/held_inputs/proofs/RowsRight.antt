@@ -17,14 +17,16 @@ use Rattle.rules.proofs.Checks.{not-accepted, same-value}
 use Rattle.rules.proofs.SampleRows.{RowRight, RowsRight, later-right, after-right, sheet-right, head-right, tail-right, holding-right}
 use Rattle.sheet_headings.specs.Headings.{columnsOf}
 use Rattle.sheet_stages.specs.declared.stage.Stage.{Stage}
-use Rattle.held_inputs.specs.declared.inputs.Ahead.{Ahead}
-use Rattle.held_inputs.specs.declared.inputs.InputSource.{InputSource}
-use Rattle.held_inputs.specs.declared.inputs.Filled.{Filled}
+use Rattle.rows_in_force.specs.declared.in_force.Ahead.{Ahead}
+use Rattle.input_source.specs.declared.source.InputSource.{InputSource}
+use Rattle.held_inputs.specs.declared.fill.Filled.{Filled}
 use Rattle.sheet_stages.specs.ToCome.{placed, samplesOf, answerFrom, RowsRead, toCome}
 use Rattle.sample_rows.specs.Streamed.{yetToCome, linesAfter, begunIn}
-use Rattle.held_inputs.specs.Held.{rowsAhead, sourceRows, heldFrom, inputsIn, FilledRight, atEndOf, EndedRight}
+use Rattle.rows_in_force.specs.Held.{rowsAhead, heldFrom}
+use Rattle.input_source.specs.Source.{sourceRows, atEndOf, EndedRight}
+use Rattle.held_inputs.specs.Filling.{inputsIn, FilledRight}
 use Rattle.sheet_stages.proofs.UpToRefused.{read-holds}
-use Rattle.held_inputs.proofs.HeldLaws.{held-none}
+use Rattle.rows_in_force.proofs.HeldLaws.{held-none}
 
 -- what a second is handed, in the words of its row
 pub data InputsRight : List Inputs → Type 0 where

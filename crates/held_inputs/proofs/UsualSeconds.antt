@@ -12,16 +12,18 @@ use Rattle.rules.specs.declared.run.Inputs.{Inputs}
 use Rattle.rules.proofs.Tests.{never}
 use Rattle.sheet_headings.specs.declared.headings.Columns.{Columns}
 use Rattle.sheet_stages.specs.declared.stage.Stage.{Stage}
-use Rattle.held_inputs.specs.declared.inputs.Ahead.{Ahead}
-use Rattle.held_inputs.specs.declared.inputs.Begun.{Begun}
-use Rattle.held_inputs.specs.declared.inputs.InputSource.{InputSource}
-use Rattle.held_inputs.specs.declared.usual_seconds.FillState.{FillState}
+use Rattle.rows_in_force.specs.declared.in_force.Ahead.{Ahead}
+use Rattle.rows_in_force.specs.declared.in_force.Begun.{Begun}
+use Rattle.input_source.specs.declared.source.InputSource.{InputSource}
+use Rattle.rows_in_force.specs.declared.in_force.FillState.{FillState}
 use Rattle.sheet_stages.specs.declared.stage.Found.{Found}
 use Rattle.sheet_stages.specs.ToCome.{mostPlace, RowsRead, rowFirst}
 use Rattle.usual_rows.specs.Usual.{UsualLater}
 use Rattle.sample_rows.specs.Streamed.{yetToCome}
-use Rattle.held_inputs.specs.Held.{readerAt, sourceRows, inputsIn, ReachedRight, HeldOn, placesOf, fillStateAt, filledAt, Filling, GoesOn}
-use Rattle.held_inputs.proofs.HeldLaws.{latest-of, in-force, before-next, onward-same}
+use Rattle.rows_in_force.specs.Held.{readerAt, ReachedRight}
+use Rattle.input_source.specs.Source.{sourceRows}
+use Rattle.held_inputs.specs.Filling.{inputsIn, HeldOn, placesOf, fillStateAt, filledAt, Filling, GoesOn}
+use Rattle.rows_in_force.proofs.HeldLaws.{latest-of, in-force, before-next, onward-same}
 use Rattle.held_inputs.proofs.FillLaws.{filling-more}
 use Rattle.sample_rows.proofs.UsualNext.{usual-on}
 

@@ -1,2 +1,2 @@
 -- What each second is handed.
-pub mod Held
+pub mod Filling

@@ -1,10 +1,10 @@
 // The seconds that usual rows tell, one after the other: the loop carries numbers alone, since enums by value cost more than the rows.
 ghost use mathlib.Core.Path.{_≡_};
 ghost use Prim.Native.Nat.{_≤_};
-ghost use Rattle.held_inputs.specs.Held.{fillBegun, fillStateAt, placesOf, GoesOn};
-use crate::inputs::Ahead;
-use crate::inputs::Begun;
-use crate::inputs::InputSource;
+ghost use Rattle.held_inputs.specs.Filling.{fillStateAt, placesOf, GoesOn};
+use rows_in_force::in_force::Ahead;
+use rows_in_force::in_force::Begun;
+use rows_in_force::in_force::FillState;
 use rules::samples::Sample;
 use sheet_headings::headings::Columns;
 use sheet_stages::stage::Stage;
@@ -12,35 +12,6 @@ use sheet_stages::stage::next_line;
 use usual_rows::usual::Usual;
 use usual_rows::usual::usual_later;
 use words::arithmetic::wide;
-
-// So many seconds were told: the row in force and the rows after it; the chunk is to be read on at `next`.
-pub(crate) struct FillState {
-    pub(crate) begun: Begun,
-    pub(crate) now: Sample,
-    pub(crate) ahead: Ahead,
-    pub(crate) next: usize,
-    pub(crate) seconds: usize,
-}
-
-// Before the first second.
-pub(crate) fn fill_begun(source: InputSource, next: usize) -> FillState
-    ensures { λ r. ⌜ r ≡ fillBegun source next ⌝ }
-{
-    let reader = source.reader;
-    let stage = reader.stage;
-    let now = source.now;
-    let ahead = source.ahead;
-    FillState {
-        begun: Begun {
-            stage,
-            len: reader.len,
-        },
-        now,
-        ahead,
-        next,
-        seconds: 0,
-    }
-}
 
 // The row in force and the next one, the last that was read, after so many lines.
 fn fill_state_at(

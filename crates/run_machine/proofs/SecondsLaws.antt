@@ -23,7 +23,7 @@ use Rattle.arguments.proofs.SecondsAsked.{long-asked}
 use Rattle.samples.specs.declared.check.Checked.{Checked}
 use Rattle.samples.specs.declared.check.Span.{Span}
 use Rattle.samples.specs.Streamed.{sheetSpan, checkedWith, checkedOf}
-use Rattle.held_inputs.specs.Held.{sourceEnded}
+use Rattle.input_source.specs.Source.{sourceEnded}
 use Rattle.course.specs.Coming as coming
 use Rattle.simulation.specs.declared.state.Phase.{Phase}
 use Rattle.simulation.specs.declared.state.Simulation.{Simulation}

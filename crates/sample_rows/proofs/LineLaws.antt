@@ -224,14 +224,16 @@ take-rest s n = take-all (length s - n) (drop n s) (omega (arith, length-drop n 
 pub at-end-of : (s : List ℕ) (m : SampleReader) (rest : List ℕ) → yetToCome m (drop (length s) s ++ rest) ≡ yetToCome m rest
 at-end-of s m rest = rw (drop-length s)
 
+-- a line that goes on with bytes without LF
+pub kept-on : (m m′ : SampleReader) (more : List ℕ) → indexOf LF more ≡ length more → ((rest : List ℕ) → yetToCome m′ rest ≡ toCome (m .stage) (linesAfter (begunIn m ++ more) rest))
+    → (rest : List ℕ) → yetToCome m (more ++ rest) ≡ yetToCome m′ rest
+unfolding yetToCome
+kept-on m m′ more none keeps rest = ap (toCome (m .stage)) (line-goes-on (begunIn m) more rest none) ∙ sym (keeps rest)
+
 pub kept-whole : (s : List ℕ) (next : ℕ) (m m′ : SampleReader) (rest : List ℕ) → indexOf LF (drop next s) ≡ length (drop next s)
     → ((rest : List ℕ) → yetToCome m′ rest ≡ toCome (m .stage) (linesAfter (begunIn m ++ take (length s - next) (drop next s)) rest))
     → yetToCome m (drop next s ++ rest) ≡ yetToCome m′ (drop (length s) s ++ rest)
-unfolding yetToCome
-kept-whole s next m m′ rest none keeps =
-    ap (toCome (m .stage)) (line-goes-on (begunIn m) (drop next s) rest none ∙ ap (λ (l : List ℕ). linesAfter (begunIn m ++ l) rest) (sym (take-rest s next)))
-    ∙ sym (keeps rest)
-    ∙ sym (at-end-of s m′ rest)
+kept-whole s next m m′ rest none keeps = kept-on m m′ (drop next s) none (rw (take-rest s next) at keeps) rest ∙ sym (at-end-of s m′ rest)
 
 -- the first LF from `next` on stands at `end`, which is the chunk's length where there is none
 module _ (chunk : List ℕ) (next end : ℕ) (first : end ≡ next + indexOf LF (slice next (length chunk) chunk)) where

@@ -19,7 +19,7 @@ use Rattle.rows.specs.RowLines as lines
 use Rattle.samples.specs.declared.check.Span.{Span}
 use Rattle.sheet_stages.specs.ToCome.{placed}
 use Rattle.samples.specs.Streamed.{sheetSpan, spanOf}
-use Rattle.held_inputs.specs.Held.{heldFrom}
+use Rattle.rows_in_force.specs.Held.{heldFrom}
 use Rattle.course.specs.declared.state.Course.{Course}
 use Rattle.dispatch.specs.Working.{rowsOf, runAfter}
 use Rattle.course.proofs.Started.{started-run, started-coming}

@@ -4,7 +4,7 @@ use native.Mathlib.Omega.{arith}
 use lib.ListN.{length}
 use borrow.Author.Needs.{needs}
 use Rattle.usual_rows.specs.Usual.{UsualLater}
-use Rattle.held_inputs.specs.Held.{fillStateAt, GoesOn}
+use Rattle.held_inputs.specs.Filling.{fillStateAt, GoesOn}
 use Rattle.held_inputs.proofs.UsualSeconds.{none-told, second-told, row-told}
 use Rattle.held_inputs.proofs.usual_seconds.fill_usual.Statement.{statement}
 use Rattle.held_inputs.proofs.usual_seconds.fill_usual.Tie as tie

@@ -1,0 +1,2 @@
+-- What a run is handed its inputs from.
+pub mod Source

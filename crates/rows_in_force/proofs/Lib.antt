@@ -1,0 +1,2 @@
+-- Laws of the rows in force.
+pub mod HeldLaws

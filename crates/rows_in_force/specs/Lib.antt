@@ -1,0 +1,2 @@
+-- The row in force at a second.
+pub mod Held
