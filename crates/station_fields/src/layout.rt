@@ -40,6 +40,11 @@ pub const CONFIGURATIONS_PART: Part = Part {
 
 pub const PARTS: [Part; 4] = [CONTROL_PART, BATTERY_PART, SETS_PART, CONFIGURATIONS_PART];
 
+// What a clerk is told of them where an entry's kind or count is wrong.
+pub const KINDS: [u8; 37] = *b" (kinds are 1, 2, 3, 4 in that order)";
+
+pub const COUNTS: [u8; 60] = *b" (1 control, 1 battery, 1 to 8 sets, 1 to 64 configurations)";
+
 // "kind (2 bytes), count (2), offset (4)"
 pub const ENTRY_SIZE: usize = 8;
 
