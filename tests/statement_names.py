@@ -95,7 +95,7 @@ def is_right(found, span):
     if re.fullmatch(name, span):
         return anywhere(found, span)
     if re.fullmatch(r'\w+\.(rt|antt|py|md)', span):
-        return bool(glob.glob(os.path.join(found.root, '**', span), recursive=True))
+        return any(glob.glob(os.path.join(found.root, top, '**', span), recursive=True) for top in ('crates', 'tests', 'docs'))
     m = re.fullmatch(r'((?:\w+::)+\w+)(?:\([^()]*\))?', span)
     if m:
         return of_path(found, m.group(1).removeprefix('u32::').split('::'))
@@ -135,7 +135,7 @@ def must_tell():
             for of in (logic, code, {'words': {'an_edit': {'an_edit'}}})]
     found = Sources(*made, set(), ROOT)
     cases = [
-        ('`Flows.floorLoad`, `words Laws.the-law`, `words::masks::next_set(mask)`, `words an_edit`, `floorLoad`, `README.md`, `docs/`', 0),
+        ('`Flows.floorLoad`, `words Laws.the-law`, `words::masks::next_set(mask)`, `words an_edit`, `floorLoad`, `statement_names.py`, `docs/`', 0),
         ('`Flows.floorload`', 1), ('`words Laws.law`', 1), ('`rules Laws.the-law`', 1), ('`Laws.the-law`', 0),
         ('`words::masks::next`', 1), ('`words other_edit`', 1), ('`gone an_edit`', 1), ('`gone`', 1), ('`docs/GONE.md`', 1), ('`gone(mask)`', 1),
     ]

@@ -27,11 +27,12 @@ use station_fields::layout::PAIRS;
 use station_fields::layout::PAIRS_OFFSET;
 use words::masks::next_set;
 
+// The rows that are not told by their words, value and unit alone.
 const MAINTAIN_AT: usize = MAINTAIN.offset;
 
 const ON_LINE_AT: usize = ON_LINE.offset;
 
-const SERVICE_INTERVAL_AT: usize = SERVICE_INTERVAL.offset;
+const INTERVAL_AT: usize = SERVICE_INTERVAL.offset;
 
 const SERVICE_TIME_AT: usize = SERVICE_TIME.offset;
 
@@ -63,46 +64,42 @@ fn say_sets_of(mask: u64) {
     say(b"\n");
 }
 
-// A number with its unit.
-fn say_amount(row: Field, value: u64) {
+// A number with its unit, and what comes after it.
+fn say_amount(row: Field, value: u64, after: &[u8]) {
     number(value);
     let unit = row.unit;
     say_filled(&unit);
-}
-
-// The same at the end of its line.
-fn say_last(row: Field, value: u64) {
-    say_amount(row, value);
-    say(b"\n");
+    say(after);
 }
 
 // What the number is, at the start of its line.
-fn say_words(row: Field) {
+fn say_words(row: Field, after: &[u8]) {
     say(b"  ");
     let words = row.words;
     say_filled(&words);
+    say(after);
 }
 
 // A line such as `  warm-up: 2 s`.
-fn say_line(row: Field, value: u64) {
-    say_words(row);
-    say(b": ");
-    say_last(row, value);
+fn say_line(row: Field, value: u64, after: &[u8]) {
+    say_words(row, b": ");
+    say_amount(row, value, after);
 }
 
 fn say_maintain(row: Field, maintain: u64) {
-    say_words(row);
     if maintain == 1 {
-        say(b": 1, so that the spinning reserve is kept whatever load could be shed\n");
+        say_line(
+            row,
+            maintain,
+            b", so that the spinning reserve is kept whatever load could be shed\n",
+        );
         return;
     }
-    say(b": 0, so that load that could be shed counts towards the reserve\n");
-}
-
-fn say_online(row: Field, mask: u64) {
-    say_words(row);
-    say(b", by number:");
-    say_sets_of(mask);
+    say_line(
+        row,
+        maintain,
+        b", so that load that could be shed counts towards the reserve\n",
+    );
 }
 
 fn say_of_control(row: Field, value: u64) {
@@ -111,27 +108,27 @@ fn say_of_control(row: Field, value: u64) {
         return;
     }
     if row.offset == ON_LINE_AT {
-        say_online(row, value);
+        say_words(row, b", by number:");
+        say_sets_of(value);
         return;
     }
-    say_line(row, value);
+    say_line(row, value, b"\n");
 }
 
-// The interval and the time stand in one line, of which this is the beginning.
+// The interval begins the line that the time ends.
 fn say_interval(row: Field, interval: u64) {
     if interval == 0 {
         say(b"  service: never\n");
         return;
     }
     say(b"  service: after ");
-    say_amount(row, interval);
-    say(b", for ");
+    say_amount(row, interval, b", for ");
 }
 
 // The time is 0 where the interval is.
 fn say_time(row: Field, time: u64) {
     if 0 < time {
-        say_last(row, time);
+        say_amount(row, time, b"\n");
     }
 }
 
@@ -140,9 +137,8 @@ fn say_point(bytes: &[u8], body: Body) {
     let load = row_at(body, 0);
     let rate = row_at(body, 1);
     say(b"  fuel at ");
-    say_amount(load, number_of(bytes, load));
-    say(b": ");
-    say_last(rate, number_of(bytes, rate));
+    say_amount(load, number_of(bytes, load), b": ");
+    say_amount(rate, number_of(bytes, rate), b"\n");
 }
 
 // The points in use.
@@ -161,7 +157,7 @@ fn say_curve(set: &[u8], points: u64) {
 }
 
 fn say_of_set(bytes: &[u8], row: Field, value: u64) {
-    if row.offset == SERVICE_INTERVAL_AT {
+    if row.offset == INTERVAL_AT {
         say_interval(row, value);
         return;
     }
@@ -173,7 +169,7 @@ fn say_of_set(bytes: &[u8], row: Field, value: u64) {
         say_curve(bytes, value);
         return;
     }
-    say_line(row, value);
+    say_line(row, value, b"\n");
 }
 
 fn say_number(bytes: &[u8], body: Body, row: Field) {
@@ -181,7 +177,7 @@ fn say_number(bytes: &[u8], body: Body, row: Field) {
     match body {
         Body::Control(_) => say_of_control(row, value),
         Body::Set => say_of_set(bytes, row, value),
-        Body::Battery | Body::Pair(_) | Body::UnusedPair(_) => say_line(row, value),
+        Body::Battery | Body::Pair(_) | Body::UnusedPair(_) => say_line(row, value, b"\n"),
     }
 }
 
@@ -214,17 +210,17 @@ fn say_sets(file: &[u8], setcount: usize)
     }
 }
 
-fn say_configuration(place: usize, mask: u64) {
+fn say_configuration(file: &[u8], place: usize) {
     say(b"Configuration ");
     number_from_one(place);
     say(b", sets by number:");
-    say_sets_of(mask);
+    say_sets_of(mask_at(file, place));
 }
 
 fn say_configurations(file: &[u8], configcount: u64) {
     let mut place: usize = 0;
     while (place as u64) < configcount {
-        say_configuration(place, mask_at(file, place));
+        say_configuration(file, place);
         place += 1;
     }
 }

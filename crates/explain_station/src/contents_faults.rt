@@ -10,9 +10,11 @@ use plain_words::texts::say;
 use station_fields::layout::BATTERY_AT;
 use station_fields::layout::CONFIGURATIONS_PART;
 use station_fields::layout::CONTROL_AT;
+use station_fields::layout::COUNTS;
 use station_fields::layout::ENTRY_COUNT;
 use station_fields::layout::ENTRY_OFFSET;
 use station_fields::layout::ENTRY_SIZE;
+use station_fields::layout::KINDS;
 use station_fields::layout::PARTS;
 use station_fields::layout::Part;
 use station_fields::layout::SET_SIZE;
@@ -58,7 +60,7 @@ fn part_at(place: usize) -> Part {
     parts[place % parts.len()]
 }
 
-// Where the part at a place starts.
+// Where the part at a place starts; the configurations come last.
 fn body_at(file: &[u8], place: usize) -> usize {
     match place {
         0 => CONTROL_AT,
@@ -70,19 +72,21 @@ fn body_at(file: &[u8], place: usize) -> usize {
 
 // An entry of the table of contents: its kind, its count and its offset.
 fn ask_entry(entry: &[u8], part: Part, offset: u64) {
+    let kinds = KINDS;
+    let counts = COUNTS;
     ask(
         b"check: station file, kind of that entry is ",
         number_at(entry, 0, ENTRY_COUNT),
         part.kind,
         part.kind,
-        b" (kinds are 1, 2, 3, 4 in that order)",
+        &kinds,
     );
     ask(
         b"check: station file, count of that entry is ",
         number_at(entry, ENTRY_COUNT, ENTRY_OFFSET - ENTRY_COUNT),
         part.least,
         part.most,
-        b" (1 control, 1 battery, 1 to 8 sets, 1 to 64 configurations)",
+        &counts,
     );
     ask(
         b"check: station file, offset of that entry is ",

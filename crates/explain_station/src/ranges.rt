@@ -6,10 +6,6 @@ use plain_words::texts::say;
 use plain_words::texts::say_filled;
 use station_fields::field::Field;
 
-fn is_within(least: u64, value: u64, most: u64) -> bool {
-    (least <= value) & (value <= most)
-}
-
 fn say_pair(place: usize) {
     say(b"check: station file, pair ");
     number_from_one(place);
@@ -34,28 +30,24 @@ pub(crate) fn say_found(body: Body, row: Field, value: u64) {
     number(value);
 }
 
-// A unit, and what else is to be known of the number.
-fn say_unit(unit: &[u8], more: &[u8]) {
+// After the number that the file has: its unit with what else is to be known of it, and the range.
+fn say_range(least: u64, most: u64, unit: &[u8], more: &[u8]) {
     say_filled(unit);
     say(more);
-}
-
-// After the number that the file has.
-fn say_range(least: u64, most: u64, unit: &[u8], more: &[u8]) {
-    say_unit(unit, more);
     say(b"; right is ");
     number(least);
     if least < most {
         say(b" to ");
         number(most);
     }
-    say_unit(unit, more);
+    say_filled(unit);
+    say(more);
     say(b".\n");
 }
 
 // Says of a row's number that is outside a range what it is and what would be right; of another, nothing.
 pub(crate) fn ask_row(body: Body, row: Field, value: u64, least: u64, most: u64, more: &[u8]) {
-    if is_within(least, value, most) {
+    if (least <= value) & (value <= most) {
         return;
     }
     say_found(body, row, value);
@@ -65,7 +57,7 @@ pub(crate) fn ask_row(body: Body, row: Field, value: u64, least: u64, most: u64,
 
 // The same of a number that has no row, by the words before it.
 pub(crate) fn ask(words: &[u8], value: u64, least: u64, most: u64, unit: &[u8]) {
-    if is_within(least, value, most) {
+    if (least <= value) & (value <= most) {
         return;
     }
     say(words);

@@ -19,9 +19,11 @@ use station_fields::genset::SERVICE_INTERVAL;
 use station_fields::genset::SERVICE_TIME;
 use words::masks::existing_only;
 
+// The rows that a rule over several numbers is asked of, and the numbers that it asks beside them.
 const ON_LINE_AT: usize = ON_LINE.offset;
 
-// The numbers that rules over several numbers ask beside the row's own.
+const START_CONTENT_AT: usize = START_CONTENT.offset;
+
 const LEAST_CONTENT_AT: usize = LEAST_CONTENT.offset;
 
 const LEAST_CONTENT_WIDTH: usize = LEAST_CONTENT.width;
@@ -30,15 +32,13 @@ const MOST_CONTENT_AT: usize = MOST_CONTENT.offset;
 
 const MOST_CONTENT_WIDTH: usize = MOST_CONTENT.width;
 
+const SERVICE_TIME_AT: usize = SERVICE_TIME.offset;
+
 const INTERVAL_AT: usize = SERVICE_INTERVAL.offset;
 
 const INTERVAL_WIDTH: usize = SERVICE_INTERVAL.width;
 
-const START_CONTENT_AT: usize = START_CONTENT.offset;
-
-const SERVICE_TIME_AT: usize = SERVICE_TIME.offset;
-
-// Two places of the control's rows.
+// The places of two of the control's rows.
 const FILTER_K_PLACE: usize = FILTER_K.offset / FILTER_K.width;
 
 const MINIMUM_SECONDS_PLACE: usize = MINIMUM_SECONDS.offset / MINIMUM_SECONDS.width;
@@ -64,7 +64,7 @@ fn ask_control(setcount: usize, row: Field, value: u64) {
     ask_range(Body::Control(setcount), row, value);
 }
 
-// "least <= start <= most": the content at the start is told for all three.
+// "least <= start <= most": what is wrong with the least content is told of the content at the start.
 fn ask_start(bytes: &[u8], row: Field, start: u64) {
     let least = number_at(bytes, LEAST_CONTENT_AT, LEAST_CONTENT_WIDTH);
     let most = number_at(bytes, MOST_CONTENT_AT, MOST_CONTENT_WIDTH);
@@ -141,14 +141,7 @@ fn ask_number(bytes: &[u8], body: Body, row: Field) {
     }
 }
 
-// The minimum seconds are told before filter k, which stands before them.
-fn told_place(body: Body, place: usize) -> usize {
-    match body {
-        Body::Control(_) => told_of_control(place),
-        Body::Battery | Body::Set | Body::Pair(_) | Body::UnusedPair(_) => place,
-    }
-}
-
+// The seconds are told one after the other, so the minimum seconds before filter k.
 fn told_of_control(place: usize) -> usize {
     if place == FILTER_K_PLACE {
         return MINIMUM_SECONDS_PLACE;
@@ -157,6 +150,14 @@ fn told_of_control(place: usize) -> usize {
         return FILTER_K_PLACE;
     }
     place
+}
+
+// The row that is told at a place.
+fn told_place(body: Body, place: usize) -> usize {
+    match body {
+        Body::Control(_) => told_of_control(place),
+        Body::Battery | Body::Set | Body::Pair(_) | Body::UnusedPair(_) => place,
+    }
 }
 
 // What is wrong in the body that the bytes start with.

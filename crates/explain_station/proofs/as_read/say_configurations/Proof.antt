@@ -14,9 +14,6 @@ abbrev μ-loop : tie.MeasureT-loop
 loop-holds : tie.Need-loop-holds Inv-loop μ-loop
 loop-holds c = search needs
 
-mask-at-requires : tie.Need-mask-at-requires Inv-loop μ-loop
-mask-at-requires c κs = search needs
-
 say-configuration-requires : tie.Need-say-configuration-requires Inv-loop μ-loop
 say-configuration-requires c κs = search needs
 
@@ -39,7 +36,6 @@ say-configurations-spec =
     Inv-loop
     μ-loop
     loop-holds
-    mask-at-requires
     say-configuration-requires
     add-place
     loop-less
