@@ -14,8 +14,8 @@ use Rattle.rules.specs.Row.{columns}
 use Rattle.rules.specs.Second.{step}
 use Rattle.rules.specs.Seconds.{numbersOf}
 use Rattle.laws.specs.Admitted.{Admitted}
-use Rattle.rows.specs.RowLines.{rowFirst}
-use Rattle.rows.proofs.RowLines.{numbers-length}
+use Rattle.rows.specs.RowNumbers.{rowFirst}
+use Rattle.rows.proofs.RowNumbers.{numbers-length}
 use Rattle.dispatch.specs.Working.{runAfter, rowsOf, Admits, none, more, Works}
 
 -- ---- records and rows of some seconds and then of others

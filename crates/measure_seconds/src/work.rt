@@ -7,7 +7,7 @@ use crate::row_bytes::RowBytes;
 use crate::row_bytes::no_bytes;
 use crate::row_bytes::with_bytes;
 use dispatch::second::second;
-use rows::put_rows::put_rows;
+use row_texts::put_rows::put_rows;
 use rules::answers::Ended;
 use rules::answers::Outcome;
 use rules::answers::Verdict;

@@ -9,7 +9,8 @@ use Rattle.rules.specs.declared.answers.Refusal.the-variants.{RowBuffer}
 use Rattle.rules.specs.declared.run.Row.{Row}
 use Rattle.rules.specs.Answers.{accepted, outcomeOf}
 use Rattle.rules.specs.Row.{rowText}
-use Rattle.rows.specs.Written.{textWritten, TextPut, RowPut, Front}
+use Rattle.texts.specs.Placed.{Front}
+use Rattle.rows.specs.Written.{textWritten, TextPut, RowPut}
 
 module _ (text : List ℕ) (lent : List ℕ) where
   pub text-refused : length lent < 256 → TextPut text lent (Outcome.Refused RowBuffer) lent

@@ -1,5 +1,5 @@
--- What is owed of a text in a lent buffer, the line of a set, the line that is a whole answer, and rows of numbers as lines.
+-- What is owed of a text in a lent buffer, a row's numbers, the line of a set, and the line that is a whole answer.
 pub mod Written
+pub mod RowNumbers
 pub mod SetLine
 pub mod AnswerLine
-pub mod RowLines

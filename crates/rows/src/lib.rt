@@ -1,7 +1,4 @@
-// The lines that a run prints, each written into the buffer that the caller lends.
-mod decimal;
-pub mod put_rows;
+// A row as numbers, and the lines that a run prints, each written into the buffer that the caller lends.
 pub mod row;
 pub mod row_numbers;
 pub mod run_lines;
-mod text;

@@ -2,11 +2,15 @@
 ghost use mathlib.Core.Path.{_≡_};
 ghost use Rattle.rules.specs.Row.{columns};
 ghost use Rattle.rows.specs.Written.{RowPut};
-use crate::text::put_numbers;
+use decimals::numbers::put_commaed;
+use decimals::numbers::put_numbers;
 use rules::answers::Outcome;
 use rules::answers::Refusal;
 use rules::limits::LEAST_ROW_BUFFER;
 use rules::run::Row;
+
+// So many of a row's numbers, whatever they are, have room in the least row buffer; so have the others after them, since these have 32 bits.
+const FIRST: usize = 8;
 
 // A row's thirteen numbers, in the heading's order.
 pub fn numbers_of(row: Row) -> [u64; 13]
@@ -38,5 +42,6 @@ pub fn put_row(row: Row, buffer: &mut [u8]) -> Outcome
         return Outcome::Refused(Refusal::RowBuffer);
     }
     let numbers = numbers_of(row);
-    Outcome::Row(put_numbers(&numbers, 0, buffer))
+    let first = put_commaed(&numbers[..FIRST], 0, buffer);
+    Outcome::Row(put_numbers(&numbers[FIRST..], first, buffer))
 }

@@ -3,7 +3,7 @@ ghost use mathlib.Core.Path.{_≡_};
 ghost use mathlib.Core.List.{_++_};
 ghost use Prim.Native.Nat.{_≤_};
 ghost use lib.ListN.{length, drop};
-ghost use Rattle.rows.specs.RowLines.{rowFirst};
+ghost use Rattle.rows.specs.RowNumbers.{rowFirst};
 use crate::row::numbers_of;
 use rules::limits::ROW_COLUMNS;
 use rules::run::Row;

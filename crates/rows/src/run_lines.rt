@@ -4,12 +4,12 @@ ghost use Rattle.rules.specs.Row.{rowHeading, setHeading, refusalLine};
 ghost use Rattle.rows.specs.AnswerLine.{refusedLine, acceptedLine};
 ghost use Rattle.rows.specs.SetLine.{setLine};
 ghost use Rattle.rows.specs.Written.{TextPut};
-use crate::text::put_numbers;
-use crate::text::put_text;
+use decimals::numbers::put_numbers;
 use rules::answers::Outcome;
 use rules::answers::Refusal;
 use rules::limits::LEAST_ROW_BUFFER;
 use rules::run::SetState;
+use texts::put_text;
 use words::refusals::number_and_place;
 
 // The heading of the rows.
@@ -21,6 +21,7 @@ pub fn put_row_heading(buffer: &mut [u8]) -> Outcome
     }
     Outcome::Row(put_text(
         b"t,load,shed,solar,charge,spill,give,diesel,unserved,on,sets,call,store\n",
+        0,
         buffer,
     ))
 }
@@ -32,7 +33,7 @@ pub fn put_set_heading(buffer: &mut [u8]) -> Outcome
     if buffer.len() < LEAST_ROW_BUFFER {
         return Outcome::Refused(Refusal::RowBuffer);
     }
-    Outcome::Row(put_text(b"set,run,starts,stops,energy,fuel\n", buffer))
+    Outcome::Row(put_text(b"set,run,starts,stops,energy,fuel\n", 0, buffer))
 }
 
 // The line of the set that has this number, counted from 1.
@@ -60,7 +61,7 @@ pub fn put_refusal(number: u64, place: u64, buffer: &mut [u8]) -> Outcome
     if buffer.len() < LEAST_ROW_BUFFER {
         return Outcome::Refused(Refusal::RowBuffer);
     }
-    let at = put_text(b"refused,", buffer);
+    let at = put_text(b"refused,", 0, buffer);
     let columns = [number, place];
     Outcome::Row(put_numbers(&columns, at, buffer))
 }
@@ -80,5 +81,5 @@ pub fn put_accepted(buffer: &mut [u8]) -> Outcome
     if buffer.len() < LEAST_ROW_BUFFER {
         return Outcome::Refused(Refusal::RowBuffer);
     }
-    Outcome::Row(put_text(b"accepted\n", buffer))
+    Outcome::Row(put_text(b"accepted\n", 0, buffer))
 }

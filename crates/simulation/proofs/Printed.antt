@@ -15,7 +15,7 @@ use Rattle.rules.specs.Row.{rowHeading, rowText, refusalLine}
 use Rattle.rules.specs.Second.{step, recordAfter}
 use Rattle.rules.specs.Run.{inputsOf, rowsFrom, secondsAsked, runOf, shown, printed}
 use Rattle.rows.specs.AnswerLine.{refusedLine}
-use Rattle.rows.specs.RowLines as lines
+use Rattle.row_texts.specs.RowLines as lines
 use Rattle.samples.specs.declared.check.Span.{Span}
 use Rattle.samples.specs.ToCome.{placed}
 use Rattle.samples.specs.Streamed.{sheetSpan, spanOf}

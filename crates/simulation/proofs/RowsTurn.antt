@@ -18,10 +18,11 @@ use Rattle.rules.specs.Seconds.{numbersOf}
 use Rattle.rules.proofs.Shapes.{Tables}
 use Rattle.laws.proofs.Kept.{admitted-of}
 use Rattle.laws.proofs.RowLength.{row-length}
-use Rattle.rows.specs.declared.put_rows.RowsPut.{RowsPut}
-use Rattle.rows.specs.RowLines as lines
-use Rattle.rows.specs.RowLines.{LinesPut}
-use Rattle.rows.proofs.RowLines.{numbers-length, all-put}
+use Rattle.row_texts.specs.declared.put_rows.RowsPut.{RowsPut}
+use Rattle.row_texts.specs.RowLines as lines
+use Rattle.row_texts.specs.RowLines.{LinesPut}
+use Rattle.rows.proofs.RowNumbers.{numbers-length}
+use Rattle.row_texts.proofs.RowLines.{all-put}
 use Rattle.dispatch.specs.Working.{rowsOf}
 use Rattle.dispatch.proofs.Working.{rows-count}
 use Rattle.course.specs.declared.state.Course.{Course}

@@ -11,7 +11,7 @@ use Rattle.rules.specs.declared.run.Inputs.{Inputs}
 use Rattle.rules.specs.declared.run.Run.{Run}
 use Rattle.rules.specs.declared.run.Row.{Row}
 use Rattle.rules.specs.Row.{rowText}
-use Rattle.rows.specs.RowLines as lines
+use Rattle.row_texts.specs.RowLines as lines
 use Rattle.dispatch.specs.Working.{rowsOf, runAfter}
 use Rattle.dispatch.proofs.Working.{run-on, rows-on}
 use Rattle.simulation.specs.declared.state.Simulation.{Simulation}

@@ -6,7 +6,7 @@ use Rattle.rules.specs.declared.station.Station.{Station}
 use Rattle.rules.specs.declared.run.Inputs.{Inputs}
 use Rattle.rules.specs.declared.run.Run.{Run}
 use Rattle.rules.specs.Row.{setHeading, setLines}
-use Rattle.rows.specs.RowLines as lines
+use Rattle.row_texts.specs.RowLines as lines
 use Rattle.dispatch.specs.Working.{rowsOf, runAfter}
 
 -- the rows of the seconds of these inputs, from a record on

@@ -12,7 +12,7 @@ use Rattle.rules.specs.declared.run.Step.{Step}
 use Rattle.rules.specs.Second.{step}
 use Rattle.rules.specs.Seconds.{inputsEach}
 use Rattle.laws.specs.Admitted.{Admitted}
-use Rattle.rows.specs.RowLines.{rowFirst}
+use Rattle.rows.specs.RowNumbers.{rowFirst}
 use Rattle.rules.proofs.Shapes.{Tables}
 use Rattle.dispatch.specs.Parts.{runOf}
 use Rattle.dispatch.specs.Steps.{SteppedBy}

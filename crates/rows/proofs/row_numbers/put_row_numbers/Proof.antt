@@ -3,7 +3,7 @@ use mathlib.Core.Path.{_∙_}
 use denote.Ref.{now}
 use lib.ListN.{length}
 use borrow.Author.Tests.{le-leb, lt-leb}
-use Rattle.rows.specs.RowLines.{rowFirst}
+use Rattle.rows.specs.RowNumbers.{rowFirst}
 use borrow.Author.Needs.{needs}
 use Rattle.rows.proofs.row_numbers.put_row_numbers.Statement.{statement}
 use Rattle.rows.proofs.row_numbers.put_row_numbers.Tie as tie

@@ -1,12 +1,15 @@
 -- `put_refusal` meets its contract: a small buffer is refused, and any other takes the word and, after it, the two numbers. Assumes nothing.
+use Prim.Native.Nat.{_+_, _≤_}
 use mathlib.Core.List.{[], _∷_}
 use native.Mathlib.Omega.{arith}
+use lib.ListN.{length}
 use denote.Ref.{now}
 use borrow.Author.Needs.{needs}
 use Rattle.rules.specs.Bytes.{bytes, commaLine}
 use Rattle.rules.specs.Row.{refusalLine}
-use Rattle.rows.proofs.Lengths.{line-fits}
-use Rattle.rows.proofs.Texts.{goes-on}
+use Rattle.decimals.specs.Commaed.{lineOf}
+use Rattle.texts.proofs.Texts.{goes-on}
+use Rattle.texts.proofs.PutAt.{was-put, put-front}
 use Rattle.rows.proofs.RowInBuffer.{text-refused, text-written}
 use Rattle.rows.proofs.run_lines.put_refusal.Statement.{statement}
 use Rattle.rows.proofs.run_lines.put_refusal.Tie as tie
@@ -18,27 +21,29 @@ slice-aggregate-put-text : tie.Need-slice-aggregate-put-text
 slice-aggregate-put-text c = search needs
 
 put-text-requires : tie.Need-put-text-requires
-put-text-requires c κs = omega (arith, c .before .before .if1 .left)
+put-text-requires c κs = search needs
 
 slice-aggregate-put-numbers : tie.Need-slice-aggregate-put-numbers
 slice-aggregate-put-numbers c = search needs
 
 put-numbers-requires : tie.Need-put-numbers-requires
-put-numbers-requires c κs =
-    line-fits _ _ _ (omega arith) (omega arith, (omega arith, tt)) (omega (arith, c .before .before .before .before .before .before .before .if1 .left, c .before .before .before .before .put-text .ensures .0, c .before .before .before .before .put-text .kept .1 .0))
+put-numbers-requires c κs = search needs
 
 same-length : tie.Need-same-length
 same-length c = search needs
 
 returns-2 : tie.Need-returns-2
-unfolding refusalLine bytes
+unfolding refusalLine bytes lineOf
 returns-2 c =
-    let a = c .before .before .before .before .before .before .before .before .before .before .before .before .args in
-    let word = c .before .before .before .before .before .before .before .put-text in
-    let p = c .before .before .put-numbers in
-    let lent = now (a .buffer) in
-    let line = goes-on lent (bytes "refused,") (commaLine (a .number ∷ a .place ∷ [])) _ _ (word .result) _ (word .ensures) (p .ensures .0) (p .ensures .1) in
-    text-written (refusalLine (a .number) (a .place)) lent _ _ (omega (arith, c .before .before .before .before .before .before .before .before .before .before .if1 .left)) line
+    let number = c .before .before .before .before .before .before .before .before .before .before .before .before .args .number in
+    let place = c .before .before .before .before .before .before .before .before .before .before .before .before .args .place in
+    let lent = now (c .before .before .before .before .before .before .before .before .before .before .before .before .args .buffer) in
+    let word = put-front 8 (bytes "refused,") lent _ _ (omega (arith, c .before .before .before .before .before .before .before .before .before .before .if1 .left)) (c .before .before .before .before .before .before .before .put-text .ensures) in
+    let numbers = commaLine (number ∷ place ∷ []) in
+    let left = c .before .before .before .before .before .before .before .put-text .last .1 .1 .0 in
+    let room : c .before .before .before .before .before .before .before .put-text .result + 42 ≤ length left = omega (arith, c .before .before .before .before .before .before .before .before .before .before .if1 .left, word .0, c .before .before .before .before .before .before .before .put-text .kept .1 .1 .0) in
+    let p = was-put 42 numbers (c .before .before .before .before .before .before .before .put-text .result) left room _ _ (c .before .before .put-numbers .ensures) in
+    text-written (refusalLine number place) lent _ _ (omega (arith, c .before .before .before .before .before .before .before .before .before .before .if1 .left)) (goes-on lent (bytes "refused,") numbers _ _ (c .before .before .before .before .before .before .before .put-text .result) _ word (p .0) (p .1))
 
 pub put-refusal-spec : {M : Type 1} → statement M
 put-refusal-spec =

@@ -1,12 +1,10 @@
 -- `put_set_line` meets its contract: a small buffer is refused, and any other takes the line of the six numbers. Assumes nothing.
-use mathlib.Core.Path.{refl}
-use mathlib.Core.List.{[]}
 use native.Mathlib.Omega.{arith}
 use denote.Ref.{now}
 use borrow.Author.Needs.{needs}
 use Rattle.rows.specs.SetLine.{setLine}
-use Rattle.rows.proofs.Lengths.{line-fits}
-use Rattle.rows.proofs.Texts.{goes-on}
+use Rattle.decimals.specs.Commaed.{lineOf}
+use Rattle.texts.proofs.PutAt.{put-front}
 use Rattle.rows.proofs.RowInBuffer.{text-refused, text-written}
 use Rattle.rows.proofs.run_lines.put_set_line.Statement.{statement}
 use Rattle.rows.proofs.run_lines.put_set_line.Tie as tie
@@ -27,19 +25,17 @@ slice-aggregate-put-numbers : tie.Need-slice-aggregate-put-numbers
 slice-aggregate-put-numbers c = search needs
 
 put-numbers-requires : tie.Need-put-numbers-requires
-put-numbers-requires c κs =
-    line-fits _ _ _ (omega arith) (omega arith, (omega arith, (omega arith, (omega arith, (omega arith, (omega arith, tt)))))) (omega (arith, c .before .before .before .before .before .if1 .left))
+put-numbers-requires c κs = search needs
 
 same-length : tie.Need-same-length
 same-length c = search needs
 
 returns-2 : tie.Need-returns-2
-unfolding setLine
+unfolding setLine lineOf
 returns-2 c =
-    let a = c .before .before .before .before .before .before .before .before .before .before .args in
-    let p = c .before .before .put-numbers in
-    let lent = now (a .buffer) in
-    text-written (setLine (a .number) (a .state)) lent _ _ (omega (arith, c .before .before .before .before .before .before .before .before .if1 .left)) (goes-on lent [] (setLine (a .number) (a .state)) lent _ 0 _ (refl, refl) (p .ensures .0) (p .ensures .1))
+    let line = setLine (c .before .before .before .before .before .before .before .before .before .before .args .number) (c .before .before .before .before .before .before .before .before .before .before .args .state) in
+    let lent = now (c .before .before .before .before .before .before .before .before .before .before .args .buffer) in
+    text-written line lent _ _ (c .before .before .before .before .before .before .before .before .if1 .left) (put-front 126 line lent _ _ (omega (arith, c .before .before .before .before .before .before .before .before .if1 .left)) (c .before .before .put-numbers .ensures))
 
 pub put-set-line-spec : {M : Type 1} → statement M
 put-set-line-spec =

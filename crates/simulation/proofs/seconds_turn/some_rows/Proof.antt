@@ -4,7 +4,7 @@ use native.Mathlib.Omega.{arith}
 use denote.Ref.{now}
 use lib.ListN.{length, take, drop, length-map, length-take}
 use Rattle.rules.proofs.Shapes.{Tables}
-use Rattle.rows.specs.RowLines.{LinesPut}
+use Rattle.row_texts.specs.RowLines.{LinesPut}
 use Rattle.simulation.proofs.LineLaws.{rest-is}
 use Rattle.simulation.proofs.RowsTurn.{numbers-fit, rows-room, rows-turn}
 use borrow.Author.Needs.{needs}

@@ -17,7 +17,7 @@ use Rattle.rules.specs.Second.{step}
 use Rattle.rules.specs.Seconds.{inputsEach}
 use Rattle.rules.proofs.Shapes.{Tables}
 use Rattle.laws.specs.Admitted.{Admitted}
-use Rattle.rows.specs.RowLines.{rowFirst}
+use Rattle.rows.specs.RowNumbers.{rowFirst}
 use Rattle.dispatch.specs.Parts.{runOf}
 use Rattle.dispatch.specs.Working.{firstInputs, Admits, Works}
 use Rattle.dispatch.proofs.Admitting.{rest-of}

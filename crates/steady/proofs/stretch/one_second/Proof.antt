@@ -11,7 +11,7 @@ use Rattle.rules.specs.declared.run.Step.{Step}
 use Rattle.rules.specs.Second.{step}
 use Rattle.rules.specs.Seconds.{inputsEach}
 use Rattle.rules.proofs.Shapes.{Tables}
-use Rattle.rows.specs.RowLines.{rowFirst}
+use Rattle.rows.specs.RowNumbers.{rowFirst}
 use Rattle.dispatch.specs.Parts.{runOf}
 use Rattle.dispatch.specs.Steps.{SteppedBy}
 use Rattle.dispatch.specs.Working.{firstInputs, Admits, Works}

@@ -1,0 +1,2 @@
+-- Numbers as text.
+pub mod Commaed

@@ -1,0 +1,3 @@
+// Numbers into a buffer that the caller lends, from a place on.
+mod decimal;
+pub mod numbers;

@@ -1,0 +1,2 @@
+-- Rows of numbers as lines.
+pub mod RowLines

@@ -1,0 +1,2 @@
+-- What is owed of a text in a lent buffer.
+pub mod Placed
