@@ -4,11 +4,11 @@ ghost use Prim.Native.Nat.{_≤_, _-_, _*_};
 ghost use lib.ListN.{length, take};
 ghost use Rattle.rules.specs.Seconds.{inputsEach};
 ghost use Rattle.samples.specs.Held.{inputsIn};
-ghost use Rattle.course.specs.Moves.{Moves, withSource, waitingFor, haltFor, SecondsMoved, NoInputs, SomeAsked};
-use crate::state::Course;
-use crate::state::Halt;
-use crate::state::Moved;
-use rules::answers::Ended;
+ghost use Rattle.course_work.specs.Moves.{Moves, withSource, waitingFor, SecondsMoved, NoInputs, SomeAsked};
+use course::state::Course;
+use course::state::Halt;
+use course::state::Moved;
+use course::state::halt_for;
 use rules::limits::ROW_COLUMNS;
 use samples::inputs::InputSource;
 use samples::inputs::end_inputs;
@@ -66,17 +66,6 @@ fn without_inputs(course: Course, source: InputSource, next: usize, ended: bool)
         return waiting(with_source(course, after), next, Halt::Further);
     }
     waiting(with_source(course, source), next, Halt::Input)
-}
-
-// The run goes on after seconds that were all worked, and breaks off where one was refused.
-fn halt_for(ended: Ended) -> Halt
-    ensures { λ r. ⌜ r ≡ haltFor ended ⌝ }
-{
-    match ended {
-        Ended::AllWorked => Halt::Further,
-        Ended::NoRoom => Halt::Further,
-        Ended::BeforeRefused => Halt::Broken,
-    }
 }
 
 // A count is cast in a function of its own, so that its caller has only the difference to show.
