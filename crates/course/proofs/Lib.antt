@@ -1,7 +1,4 @@
--- The seconds worked, their inputs, and what a call and a beginning owe.
-pub mod Worked
+-- The inputs of seconds, and what a beginning owes.
 pub mod InputsRight
-pub mod HandedOver
-pub mod MoveLaws
 pub mod BeginLaws
 pub mod Started

@@ -1,16 +1,18 @@
 // The course of a run between two calls, by value.
 ghost use mathlib.Core.Path.{_≡_};
+ghost use Rattle.course.specs.Halts.{haltFor};
 use input_source::source::InputSource;
+use rules::answers::Ended;
 use rules::run::Run;
 use rules::run::SetState;
 use rules::station::Station;
 
 pub struct Course {
-    pub(crate) station: Station,
-    pub(crate) run: Run,
-    pub(crate) source: InputSource,
+    pub station: Station,
+    pub run: Run,
+    pub source: InputSource,
     // seconds still to be worked
-    pub(crate) left: u32,
+    pub left: u32,
 }
 
 // What a call ended for.
@@ -33,6 +35,17 @@ pub struct Moved {
     pub next: usize,
     pub seconds: usize,
     pub halt: Halt,
+}
+
+// The run goes on after seconds that were all worked, and breaks off where one was refused.
+pub fn halt_for(ended: Ended) -> Halt
+    ensures { λ r. ⌜ r ≡ haltFor ended ⌝ }
+{
+    match ended {
+        Ended::AllWorked => Halt::Further,
+        Ended::NoRoom => Halt::Further,
+        Ended::BeforeRefused => Halt::Broken,
+    }
 }
 
 // How many sets the station has.

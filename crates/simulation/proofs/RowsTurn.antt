@@ -31,7 +31,7 @@ use Rattle.course.specs.declared.state.Moved as moves
 use Rattle.course.specs.Ruled.{AllRuled}
 use Rattle.course.specs.Coming as coming
 use Rattle.course.specs.Coming.{Coming}
-use Rattle.course.specs.Moves.{HaltedFor, Moves}
+use Rattle.course_work.specs.Moves.{HaltedFor, Moves}
 use Rattle.course.proofs.Started.{coming-length}
 use Rattle.simulation.specs.declared.state.Phase.{Phase}
 use Rattle.simulation.specs.declared.state.Simulation.{Simulation}

@@ -12,7 +12,7 @@ use crate::state::Turn;
 use crate::state::Wants;
 use course::state::Halt;
 use course::state::seconds_to_work;
-use course::work::work;
+use course_work::work::work;
 use row_texts::put_rows::put_rows;
 use rules::limits::LEAST_ROW_BUFFER;
 use rules::limits::ROW_COLUMNS;

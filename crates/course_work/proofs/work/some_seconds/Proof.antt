@@ -1,10 +1,10 @@
 -- `some_seconds` meets its contract: the seconds that the chunk tells, or a wait. Assumes nothing.
 use native.Mathlib.Omega.{arith}
 use denote.Ref.{now}
-use Rattle.course.proofs.MoveLaws.{seconds-moved, no-seconds-moved}
+use Rattle.course_work.proofs.MoveLaws.{seconds-moved, no-seconds-moved}
 use borrow.Author.Needs.{needs}
-use Rattle.course.proofs.work.some_seconds.Statement.{statement}
-use Rattle.course.proofs.work.some_seconds.Tie as tie
+use Rattle.course_work.proofs.work.some_seconds.Statement.{statement}
+use Rattle.course_work.proofs.work.some_seconds.Tie as tie
 
 fill-requires : tie.Need-fill-requires
 fill-requires c κs = search needs

@@ -25,14 +25,15 @@ use Rattle.held_inputs.specs.Filling.{inputsIn, placesOf, HeldOn, FilledRight}
 use Rattle.sample_rows.proofs.LineLaws.{drop-least}
 use Rattle.sheet_stages.proofs.UpToRefused.{all-read}
 use Rattle.input_source.proofs.EndLaws.{source-accepted}
 use Rattle.course.specs.declared.state.Course.{Course}
 use Rattle.course.specs.declared.state.Halt.{Halt}
 use Rattle.course.specs.declared.state.Moved.{Moved}
 use Rattle.course.specs.Ruled.{AllRuled, AllRight}
 use Rattle.course.specs.Coming.{inputsAll, Coming, ComesOn, unended, weight}
-use Rattle.course.specs.Moves.{HaltedFor, Moves, withSource, waitingFor, NoInputs, haltFor, withSeconds, cameIn, SecondsMoved}
-use Rattle.course.proofs.Worked.{Some, some-worked, All, all-worked}
+use Rattle.course.specs.Halts.{haltFor}
+use Rattle.course_work.specs.Moves.{HaltedFor, Moves, withSource, waitingFor, NoInputs, withSeconds, cameIn, SecondsMoved}
+use Rattle.course_work.proofs.Worked.{Some, some-worked, All, all-worked}
 use Rattle.course.proofs.InputsRight.{held-right, first-right, drop-right, in-length}
 
 opposite : {A : Type 0} (b : Bool) → b ≡ true → b ≡ false → A
 opposite b p q = absurd (let z : _≡_ {A = ℕ} 0 1 = cc (sym p ∙ q) in omega arith)

@@ -2,10 +2,10 @@
 use native.Mathlib.Omega.{arith}
 use denote.Ref.{now}
 use lib.ListN.{length-take}
-use Rattle.course.proofs.MoveLaws.{none-left, no-room}
+use Rattle.course_work.proofs.MoveLaws.{none-left, no-room}
 use borrow.Author.Needs.{needs}
-use Rattle.course.proofs.work.work.Statement.{statement}
-use Rattle.course.proofs.work.work.Tie as tie
+use Rattle.course_work.proofs.work.work.Statement.{statement}
+use Rattle.course_work.proofs.work.work.Tie as tie
 
 lesser-requires : tie.Need-lesser-requires
 lesser-requires c κs = search needs

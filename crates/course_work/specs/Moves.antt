@@ -4,18 +4,18 @@ use mathlib.Core.Path.{_≡_}
 use mathlib.Core.Bool.{Bool, true, false}
 use mathlib.Core.List.{List, [], _++_}
 use lib.ListN.{length, drop}
-use Rattle.rules.specs.declared.answers.Ended.{Ended}
 use Rattle.rules.specs.declared.run.Inputs.{Inputs}
 use Rattle.rules.specs.Seconds.{numbersOf, WorkedSeconds, cameTo}
 use Rattle.dispatch.specs.Working.{rowsOf, runAfter}
 use Rattle.input_source.specs.declared.source.InputSource.{InputSource}
 use Rattle.input_source.specs.Source.{sourceEnded, EndedRight}
 use Rattle.held_inputs.specs.Filling.{placesOf}
 use Rattle.course.specs.declared.state.Course.{Course}
 use Rattle.course.specs.declared.state.Halt.{Halt}
 use Rattle.course.specs.declared.state.Moved.{Moved}
 use Rattle.course.specs.Ruled.{AllRuled}
+use Rattle.course.specs.Halts.{haltFor}
 use Rattle.course.specs.Coming.{Coming, ComesOn, weight}
 
 -- no accepted sample file goes on like this
 abbrev pub NoneComes : Course → List ℕ → ℕ → Bool → Type 0
@@ -69,12 +69,6 @@ pub record NoInputs (c : Course) (source : InputSource) (next : ℕ) (ended : Bo
   pub at-end : EndedRight source after
 
 -- ---- a call that works seconds
-
--- it goes on after seconds that were all worked
-abbrev pub haltFor : Ended → Halt
-haltFor Ended.AllWorked = Halt.Further
-haltFor Ended.NoRoom = Halt.Further
-haltFor Ended.BeforeRefused = Halt.Broken
 
 -- after seconds that came to this
 abbrev pub withSeconds : Course → InputSource → ℕ → WorkedSeconds → Moved

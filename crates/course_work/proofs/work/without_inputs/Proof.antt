@@ -1,9 +1,9 @@
 -- `without_inputs` meets its contract. Assumes nothing.
 use mathlib.Core.Path.{sym, _∙_}
-use Rattle.course.proofs.MoveLaws.{no-inputs-broken, no-inputs-ended, no-inputs-yet}
+use Rattle.course_work.proofs.MoveLaws.{no-inputs-broken, no-inputs-ended, no-inputs-yet}
 use borrow.Author.Needs.{needs}
-use Rattle.course.proofs.work.without_inputs.Statement.{statement}
-use Rattle.course.proofs.work.without_inputs.Tie as tie
+use Rattle.course_work.proofs.work.without_inputs.Statement.{statement}
+use Rattle.course_work.proofs.work.without_inputs.Tie as tie
 
 end-inputs-requires : tie.Need-end-inputs-requires
 end-inputs-requires c κs = search needs

@@ -4,15 +4,15 @@ ghost use Prim.Native.Nat.{_≤_, _-_, _*_};
 ghost use lib.ListN.{length, take};
 ghost use Rattle.rules.specs.Seconds.{inputsEach};
 ghost use Rattle.held_inputs.specs.Filling.{inputsIn};
-ghost use Rattle.course.specs.Moves.{Moves, withSource, waitingFor, haltFor, SecondsMoved, NoInputs, SomeAsked};
-use crate::state::Course;
-use crate::state::Halt;
-use crate::state::Moved;
+ghost use Rattle.course_work.specs.Moves.{Moves, withSource, waitingFor, SecondsMoved, NoInputs, SomeAsked};
+use course::state::Course;
+use course::state::Halt;
+use course::state::Moved;
+use course::state::halt_for;
 use held_inputs::fill::fill;
 use input_source::source::InputSource;
 use input_source::source::end_inputs;
 use input_source::source::has_ended;
-use rules::answers::Ended;
 use rules::limits::ROW_COLUMNS;
 use steady::seconds::seconds;
 use words::arithmetic::lesser;
@@ -66,17 +66,6 @@ fn without_inputs(course: Course, source: InputSource, next: usize, ended: bool)
         return waiting(with_source(course, after), next, Halt::Further);
     }
     waiting(with_source(course, source), next, Halt::Input)
-}
-
-// The run goes on after seconds that were all worked, and breaks off where one was refused.
-fn halt_for(ended: Ended) -> Halt
-    ensures { λ r. ⌜ r ≡ haltFor ended ⌝ }
-{
-    match ended {
-        Ended::AllWorked => Halt::Further,
-        Ended::NoRoom => Halt::Further,
-        Ended::BeforeRefused => Halt::Broken,
-    }
 }
 
 // A count is cast in a function of its own, so that its caller has only the difference to show.

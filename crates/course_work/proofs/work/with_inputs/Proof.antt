@@ -2,12 +2,12 @@
 use native.Mathlib.Omega.{arith}
 use denote.Ref.{now}
 use lib.ListN.{length-take}
 use Rattle.course.proofs.InputsRight.{in-length}
-use Rattle.course.proofs.HandedOver.{in-three}
-use Rattle.course.proofs.MoveLaws.{seconds-move, worked-few}
+use Rattle.course_work.proofs.HandedOver.{in-three}
+use Rattle.course_work.proofs.MoveLaws.{seconds-move, worked-few}
 use borrow.Author.Needs.{needs}
-use Rattle.course.proofs.work.with_inputs.Statement.{statement}
-use Rattle.course.proofs.work.with_inputs.Tie as tie
+use Rattle.course_work.proofs.work.with_inputs.Statement.{statement}
+use Rattle.course_work.proofs.work.with_inputs.Tie as tie
 
 slice-aggregate-handed-over : tie.Need-slice-aggregate-handed-over
 slice-aggregate-handed-over c = search needs

@@ -3,9 +3,9 @@ use Prim.Native.Nat.{_-_}
 use native.Mathlib.Omega.{arith}
 use lib.ListN.{length-set}
 use borrow.Author.Needs.{needs}
-use Rattle.course.proofs.HandedOver.{Handing, handing-start, handing-more, handing-over}
-use Rattle.course.proofs.work.handed_over.Statement.{statement}
-use Rattle.course.proofs.work.handed_over.Tie as tie
+use Rattle.course_work.proofs.HandedOver.{Handing, handing-start, handing-more, handing-over}
+use Rattle.course_work.proofs.work.handed_over.Statement.{statement}
+use Rattle.course_work.proofs.work.handed_over.Tie as tie
 
 abbrev Inv-loop : tie.InvT-loop
 Inv-loop count loads solars sheddables inputs₀ i₀ inputs i = Handing loads solars sheddables count inputs₀ inputs i

@@ -1,0 +1,2 @@
+-- What a call owes.
+pub mod Moves
