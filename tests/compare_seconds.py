@@ -2,11 +2,14 @@
 """compare_seconds.py REFERENCE GENERATE SEEDS COUNT
 
 Runs target/bin/test_second_cases (`rt check test_second_cases` builds it) on COUNT generated cases of one second, and compares each answer byte
-for byte with that of the independent reference program: the row's length or the refusal, the record handed back, the row. The program
-itself holds the lent buffer to what it was, beside the row. Says how many were accepted, how many met each refusal, and how many held a
-NaN or an infinity, and fails where one of them never was.
+for byte with that of the independent reference program: the row's length or the refusal, the record handed back, the row; and the rest of
+the lent buffer with what was lent. Says how many were accepted, how many met each refusal, and how many held a NaN or an infinity, and
+fails where one of them never was.
+
+The program reads and prints numbers of 8 bytes, and this makes them of the reference's lines and back: a reader of text would have to be
+proved too.
 """
-import collections, os, sys
+import collections, os, struct, sys
 
 sys.dont_write_bytecode = True  # no folder of compiled modules among the sources
 from c_drivers import fail, must
@@ -22,6 +25,45 @@ KINDS = ['accepted'] + REFUSALS + HELD
 # Where a case has its held setpoint: whether there is one, and its bits.
 HELD_TAG, HELD_BITS = 212, 213
 SIGN, INFINITY = 2**63, 0x7ff0_0000_0000_0000
+
+U8, U32, U64 = 2**8 - 1, 2**32 - 1, 2**64 - 1
+BATTERY = [U32, U32, U64, U64, U64]
+STATE = [4] + [U32] * 5 + [U64] * 2  # mode, remaining, four counts, energy, fuel
+RECORD = [U32, U64, U32, U32, 1, U64] + STATE * 8 + [U64] * 9 + [U32] * 60
+LENT = 4096  # bytes of the buffer of which each case lends a part
+# The most that may stand at each place of a case: the station's counts, control, battery, sets and masks; the run's record; the inputs;
+# how much of the buffer is lent.
+MOST = [U32] * 2 + [U32] * 9 + BATTERY + [U32] * 16 * 8 + [U8] * 64 + RECORD + [U32] * 3 + [LENT]
+CASE = struct.Struct('<%dQ' % len(MOST))
+ANSWER = struct.Struct('<%dQ' % (3 + len(RECORD)))
+FILLED = b'\xaa' * LENT  # what the program fills the buffer with before it lends it
+
+
+def case_bytes(case):
+    """A case of the generator as the program reads it; each number is held to its type here."""
+    numbers = list(map(int, case.split()))
+    if len(numbers) != len(MOST) or any(number > most for number, most in zip(numbers, MOST)):
+        fail('a case that the program cannot read: %s' % case)
+    return CASE.pack(*numbers)
+
+
+def answer_line(numbers, lent):
+    """An answer of the program as the reference prints it; a buffer that is not as it was beside the row is told instead."""
+    refused, number, place = numbers[:3]
+    size = 0 if refused else number
+    if lent[size:] != FILLED[size:]:
+        return 'buffer changed'
+    outcome = 'refused,%d,%d' % (number, place) if refused else 'row,%d' % size
+    return '%s;%s;%s' % (outcome, ' '.join(map(str, numbers[3:])), lent[:size].hex() or '-')
+
+
+def answered(cases):
+    """The program's answers to the cases, as lines."""
+    printed = must([PROGRAM], input=b''.join(map(case_bytes, cases)))
+    each = ANSWER.size + LENT
+    if len(printed) != len(cases) * each:
+        fail('%d bytes of answers to %d cases' % (len(printed), len(cases)))
+    return [answer_line(ANSWER.unpack_from(printed, at), printed[at + ANSWER.size:at + each]) for at in range(0, len(printed), each)]
 
 
 def held_kind(case):
@@ -59,8 +101,7 @@ def main():
     commands, cases = zip(*generated(generate, 'seconds', seeds, count))
     text = ''.join(case + '\n' for case in cases).encode()
     theirs = must([reference, 'batch', 'seconds'], input=text).decode().splitlines()
-    ours = must([PROGRAM], input=text).decode().splitlines()
-    hold(commands, ours, theirs)
+    hold(commands, answered(cases), theirs)
     met = collections.Counter(kind for case, answer in zip(cases, theirs) for kind in what_was_met(case, answer))
     print('seconds: ' + ', '.join('%s: %d' % (kind, met[kind]) for kind in KINDS))
     for kind in KINDS:

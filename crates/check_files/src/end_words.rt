@@ -15,13 +15,12 @@ use plain_words::numbers::number;
 use plain_words::texts::say;
 use refusal_words::places::Place;
 use refusal_words::places::place_of;
-use refusal_words::places::say_subject;
+use refusal_words::refused::say_refused;
 use refusal_words::titles::say_title;
 use rules::answers::Refusal;
 use samples::check::Checked;
 use samples::check::Span;
 use samples::check::finish;
-use words::refusals::number_and_place;
 
 // The most bytes of a station file that are held.
 const MOST_STATION: usize = 677;
@@ -103,12 +102,9 @@ fn refuse_line(refusal: Refusal, line: u64, heading: Sought, refused: Sought) {
     say_line_fault(refusal, first, heading.len, text, refused.len);
 }
 
-fn say_refused(refusal: Refusal, place: Place) {
-    let answer = number_and_place(refusal);
+fn say_which(refusal: Refusal, place: Place) {
     say(b"check: ");
-    say_subject(place);
-    say(b" is refused with the number ");
-    number(answer.0);
+    say_refused(refusal, place);
     say(b": ");
     say_title(refusal);
     say(b".\n");
@@ -118,7 +114,7 @@ fn refuse(refusal: Refusal, held: Held) {
     let place = place_of(refusal);
     let heading = held.heading;
     let line = held.line;
-    say_refused(refusal, place);
+    say_which(refusal, place);
     match place {
         Place::StationFile | Place::Entry(_) | Place::Set(_) => refuse_station(refusal, held),
         Place::Configuration(_) => refuse_station(refusal, held),

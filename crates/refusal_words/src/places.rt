@@ -74,7 +74,7 @@ pub fn place_of(refusal: Refusal) -> Place
 }
 
 // Of which file or argument it is.
-pub fn say_subject(place: Place) {
+pub(crate) fn say_subject(place: Place) {
     match place {
         Place::StationFile | Place::Entry(_) | Place::Set(_) => say(b"the station file"),
         Place::Configuration(_) => say(b"the station file"),

@@ -1,25 +1,11 @@
 // A refusal in plain words, in a line; `check` tells more.
-use plain_words::numbers::number;
 use plain_words::texts::say;
 use refusal_words::places::Place;
 use refusal_words::places::place_of;
 use refusal_words::places::say_place;
-use refusal_words::places::say_subject;
+use refusal_words::refused::say_refused;
 use refusal_words::titles::say_title;
 use rules::answers::Refusal;
-use words::refusals::number_and_place;
-
-fn say_refused(refusal: Refusal, place: Place) {
-    let answer = number_and_place(refusal);
-    say(b"run: ");
-    say_subject(place);
-    say(b" is refused with the number ");
-    number(answer.0);
-    say_place(place);
-    say(b": ");
-    say_title(refusal);
-    say(b".\n");
-}
 
 fn say_check() {
     say(b"run: bin/check STATION SAMPLES says what stands there and what would be right.\n");
@@ -36,6 +22,11 @@ fn say_more(place: Place) {
 
 pub(crate) fn say_refusal(refusal: Refusal) {
     let place = place_of(refusal);
+    say(b"run: ");
     say_refused(refusal, place);
+    say_place(place);
+    say(b": ");
+    say_title(refusal);
+    say(b".\n");
     say_more(place);
 }

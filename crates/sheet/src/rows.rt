@@ -68,7 +68,13 @@ pub fn sample_under(columns: Columns, at: u32, powers: Powers) -> Sample
 fn agreeing(line: u64, columns: Columns, at: u32, powers: Powers) -> RowRead
     ensures { λ r. ⌜ rowOf r ≡ rowOfValues columns line (at ∷ powers .second ∷ powers .third ∷ powers .fourth ∷ []) ⌝ }
 {
-    let sample = sample_under(columns, at, powers);
+    // not by `sample_under`: its one caller is the usual row, so that it costs no call there
+    let sample = Sample {
+        at,
+        load: value_under(1, columns, powers),
+        solar: value_under(2, columns, powers),
+        sheddable: value_under(3, columns, powers),
+    };
     if sample.load < sample.sheddable {
         return RowRead::Refused(Refusal::SheddableAboveLoad(line));
     }

@@ -1,105 +1,59 @@
-// The answer to a case: what the second answers, the record that it hands back, the row; and a buffer left as it was beside the row.
-use crate::layout::ROOM;
-use crate::numbers::read_numbers;
-use crate::output::put_hex;
-use crate::output::put_number;
-use crate::output::put_text;
+// The answer to a case: what the second answers and the record that it hands back, as numbers, and the row in the lent buffer.
 use crate::record_case::inputs_in;
 use crate::record_case::put_record;
 use crate::record_case::run_in;
 use crate::station_case::station_in;
 use dispatch::second::second;
 use rules::answers::Outcome;
-use rules::answers::Refusal;
-use rules::run::Handed;
+use words::arithmetic::lesser;
+use words::arithmetic::wide;
 use words::refusals::number_and_place;
+
+// Where a case has the lent buffer's length.
+const ROOM: usize = 350;
 
 // A byte that no row has.
 const LENT: u8 = 0xaa;
 
-fn fill(space: &mut [u8]) {
+fn fill(lent: &mut [u8]) {
     let mut i: usize = 0;
-    while i < space.len() {
-        space[i] = LENT;
+    while i < lent.len() {
+        lent[i] = LENT;
         i += 1;
     }
 }
 
-// Whether the bytes from a place on are as they were lent.
-fn untouched(space: &[u8], from: usize) -> bool {
-    let mut i = from;
-    while i < space.len() {
-        if space[i] != LENT {
-            return false;
+// 0 and the row's length, or 1, the refusal's number and its place.
+fn put_outcome(answer: &mut [u64; 142], outcome: Outcome) {
+    match outcome {
+        Outcome::Row(size) => {
+            answer[1] = size as u64;
         }
-        i += 1;
-    }
-    true
-}
-
-// How many bytes a call may have written.
-fn written(outcome: Outcome) -> usize {
-    match outcome {
-        Outcome::Row(size) => size,
-        Outcome::Refused(_) => 0,
+        Outcome::Refused(refusal) => {
+            let told = number_and_place(refusal);
+            answer[0] = 1;
+            answer[1] = told.0;
+            answer[2] = told.1;
+        }
     }
 }
 
-fn put_row_size(out: &mut [u8], size: usize) -> usize {
-    let end = put_text(out, 0, b"row,");
-    put_number(out, end, size as u64)
-}
-
-fn put_refusal(out: &mut [u8], refusal: Refusal) -> usize {
-    let answer = number_and_place(refusal);
-    let number = answer.0;
-    let place = answer.1;
-    let mut end = put_text(out, 0, b"refused,");
-    end = put_number(out, end, number);
-    end = put_text(out, end, b",");
-    put_number(out, end, place)
-}
-
-fn put_outcome(out: &mut [u8], outcome: Outcome) -> usize {
-    match outcome {
-        Outcome::Row(size) => put_row_size(out, size),
-        Outcome::Refused(refusal) => put_refusal(out, refusal),
-    }
-}
-
-fn put_handed(out: &mut [u8], handed: Handed, space: &[u8]) -> usize {
-    let outcome = handed.answer;
-    let run = handed.run;
-    let size = written(outcome);
-    if !untouched(space, size) {
-        return put_text(out, 0, b"buffer changed\n");
-    }
-    let mut end = put_outcome(out, outcome);
-    end = put_text(out, end, b";");
-    end = put_record(out, end, run);
-    end = put_text(out, end, b";");
-    end = put_hex(out, end, space, size);
-    put_text(out, end, b"\n")
-}
-
-fn answer_case(numbers: &[u64; 351], space: &mut [u8], out: &mut [u8]) -> usize {
-    let st = station_in(numbers);
-    let run = run_in(numbers);
+// A buffer longer than the one that is lent counts as all of it.
+pub(crate) fn answer_case(
+    numbers: &[u32; 351],
+    long: &[u64; 351],
+    lent: &mut [u8],
+    answer: &mut [u64; 142],
+) {
+    let st = station_in(numbers, long);
+    let run = run_in(numbers, long);
     let inputs = inputs_in(numbers);
-    let room = numbers[ROOM] as usize;
-    fill(space);
-    if space.len() < room {
-        return put_text(out, 0, b"malformed\n");
-    }
-    let handed = second(st, run, inputs, &mut space[..room]);
-    put_handed(out, handed, space)
-}
-
-// The length of the line's answer, which is left in `out`.
-pub(crate) fn answer_line(line: &[u8], space: &mut [u8], out: &mut [u8]) -> usize {
-    let mut numbers = [0u64; 351];
-    if !read_numbers(line, &mut numbers) {
-        return put_text(out, 0, b"malformed\n");
-    }
-    answer_case(&numbers, space, out)
+    fill(lent);
+    let asked = wide(numbers[ROOM]);
+    let room = lesser(asked, lent.len());
+    let handed = second(st, run, inputs, &mut lent[..room]);
+    let outcome = handed.answer;
+    let after = handed.run;
+    put_outcome(answer, outcome);
+    put_record(answer, after);
 }

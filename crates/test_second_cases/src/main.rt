@@ -1,19 +1,15 @@
-// Cases of one second, a line each on standard input, and their answers on standard output: what the comparison with the reference program runs.
-// The format is that of the reference's kind `seconds`.
+// Cases of one second on standard input, and their answers on standard output: what the comparison with the reference program runs.
+// Both are numbers of 8 bytes, little-endian, in the order of the reference's kind `seconds`; the comparison makes them of its lines.
 mod answer;
+mod cases;
 mod held;
-mod layout;
-mod lines;
-mod numbers;
-mod output;
 mod record_case;
 mod station_case;
 
-use crate::lines::answer_all;
+use crate::cases::answer_all;
 
 fn main() {
-    let mut chunk = io::large_buffer();
-    let mut line = io::large_buffer();
-    let mut room = io::buffer();
-    answer_all(&mut chunk, &mut line, &mut room);
+    let mut case = [0u8; 2808];
+    let mut lent = io::buffer();
+    answer_all(&mut case, &mut lent);
 }

@@ -2,22 +2,26 @@
 ghost use Prim.Native.Nat.{_+_, _≤_};
 use crate::held::bits_of;
 use crate::held::float_of;
-use crate::layout::DECIDED;
-use crate::layout::INPUTS;
-use crate::layout::RECORD;
-use crate::layout::STATES;
-use crate::layout::TOTALS;
-use crate::numbers::narrow;
-use crate::output::put_next;
-use crate::output::put_number;
 use rules::run::Held;
 use rules::run::Inputs;
 use rules::run::Mode;
 use rules::run::Run;
 use rules::run::SetState;
 use rules::run::Totals;
+use words::arithmetic::wide;
 
-fn mode_in(tag: u64, remaining: u32) -> Mode {
+// Where a case has them: the record, its 8 sets of 8 numbers, its totals, its 60 amounts, and the inputs.
+const RECORD: usize = 208;
+
+const STATES: usize = 214;
+
+const TOTALS: usize = 278;
+
+const DECIDED: usize = 287;
+
+const INPUTS: usize = 347;
+
+fn mode_in(tag: u32, remaining: u32) -> Mode {
     match tag {
         0 => Mode::Off,
         1 => Mode::Warming(remaining),
@@ -27,75 +31,73 @@ fn mode_in(tag: u64, remaining: u32) -> Mode {
     }
 }
 
-fn state_in(numbers: &[u64; 351], at: usize) -> SetState
+fn state_in(numbers: &[u32; 351], long: &[u64; 351], at: usize) -> SetState
     requires { ⌜ at + 8 ≤ 351 ⌝ }
 {
-    let mode = mode_in(numbers[at], narrow(numbers[at + 1]));
+    let mode = mode_in(numbers[at], numbers[at + 1]);
     SetState {
         mode,
-        run: narrow(numbers[at + 2]),
-        clock: narrow(numbers[at + 3]),
-        starts: narrow(numbers[at + 4]),
-        stops: narrow(numbers[at + 5]),
-        energy: numbers[at + 6],
-        fuel: numbers[at + 7],
+        run: numbers[at + 2],
+        clock: numbers[at + 3],
+        starts: numbers[at + 4],
+        stops: numbers[at + 5],
+        energy: long[at + 6],
+        fuel: long[at + 7],
     }
 }
 
-fn states_in(numbers: &[u64; 351]) -> [SetState; 8] {
-    [
-        state_in(numbers, STATES),
-        state_in(numbers, STATES + 8),
-        state_in(numbers, STATES + 16),
-        state_in(numbers, STATES + 24),
-        state_in(numbers, STATES + 32),
-        state_in(numbers, STATES + 40),
-        state_in(numbers, STATES + 48),
-        state_in(numbers, STATES + 56),
-    ]
+fn states_in(numbers: &[u32; 351], long: &[u64; 351]) -> [SetState; 8] {
+    let first = state_in(numbers, long, STATES);
+    let mut states = [first; 8];
+    let mut i: usize = 1;
+    while i < 8 {
+        states[i] = state_in(numbers, long, STATES + 8 * i);
+        i += 1;
+    }
+    states
 }
 
-fn totals_in(numbers: &[u64; 351]) -> Totals {
+fn totals_in(long: &[u64; 351]) -> Totals {
     Totals {
-        offered: numbers[TOTALS],
-        load: numbers[TOTALS + 1],
-        shed: numbers[TOTALS + 2],
-        solar: numbers[TOTALS + 3],
-        charge: numbers[TOTALS + 4],
-        spill: numbers[TOTALS + 5],
-        give: numbers[TOTALS + 6],
-        diesel: numbers[TOTALS + 7],
-        unserved: numbers[TOTALS + 8],
+        offered: long[TOTALS],
+        load: long[TOTALS + 1],
+        shed: long[TOTALS + 2],
+        solar: long[TOTALS + 3],
+        charge: long[TOTALS + 4],
+        spill: long[TOTALS + 5],
+        give: long[TOTALS + 6],
+        diesel: long[TOTALS + 7],
+        unserved: long[TOTALS + 8],
     }
 }
 
-fn decided_in(numbers: &[u64; 351]) -> [u32; 60] {
+fn decided_in(numbers: &[u32; 351]) -> [u32; 60] {
     let mut decided = [0u32; 60];
     let mut i: usize = 0;
     while i < 60 {
-        decided[i] = narrow(numbers[DECIDED + i]);
+        decided[i] = numbers[DECIDED + i];
         i += 1;
     }
     decided
 }
 
-fn held_in(tag: u64, bits: u64) -> Held {
+fn held_in(tag: u32, bits: u64) -> Held {
     if tag == 0 {
         return Held::Absent;
     }
     Held::At(float_of(bits))
 }
 
-pub(crate) fn run_in(numbers: &[u64; 351]) -> Run {
-    let setpoint = held_in(numbers[RECORD + 4], numbers[RECORD + 5]);
-    let sets = states_in(numbers);
+pub(crate) fn run_in(numbers: &[u32; 351], long: &[u64; 351]) -> Run {
+    let setpoint = held_in(numbers[RECORD + 4], long[RECORD + 5]);
+    let sets = states_in(numbers, long);
     let decided = decided_in(numbers);
-    let totals = totals_in(numbers);
+    let totals = totals_in(long);
     Run {
-        done: narrow(numbers[RECORD]),
-        since: narrow(numbers[RECORD + 3]),
-        called: narrow(numbers[RECORD + 2]) as usize,
-        store: numbers[RECORD + 1],
+        done: numbers[RECORD],
+        since: numbers[RECORD + 3],
+        called: wide(numbers[RECORD + 2]),
+        store: long[RECORD + 1],
         setpoint,
         sets,
         decided,
@@ -103,86 +105,107 @@ pub(crate) fn run_in(numbers: &[u64; 351]) -> Run {
     }
 }
 
-pub(crate) fn inputs_in(numbers: &[u64; 351]) -> Inputs {
+pub(crate) fn inputs_in(numbers: &[u32; 351]) -> Inputs {
     Inputs {
-        load: narrow(numbers[INPUTS]),
-        solar: narrow(numbers[INPUTS + 1]),
-        sheddable: narrow(numbers[INPUTS + 2]),
+        load: numbers[INPUTS],
+        solar: numbers[INPUTS + 1],
+        sheddable: numbers[INPUTS + 2],
     }
 }
 
-// ---- the record handed back
+// ---- the record handed back, after the three numbers of the outcome
 
-fn put_pair(out: &mut [u8], at: usize, first: u64, second: u64) -> usize {
-    let end = put_next(out, at, first);
-    put_next(out, end, second)
-}
+const RECORD_OUT: usize = 3;
 
-fn put_held(out: &mut [u8], at: usize, held: Held) -> usize {
+const STATES_OUT: usize = 9;
+
+const TOTALS_OUT: usize = 73;
+
+const DECIDED_OUT: usize = 82;
+
+fn put_held(answer: &mut [u64; 142], held: Held) {
     match held {
-        Held::Absent => put_pair(out, at, 0, 0),
-        Held::At(number) => put_pair(out, at, 1, bits_of(number)),
+        Held::Absent => {}
+        Held::At(number) => {
+            answer[RECORD_OUT + 4] = 1;
+            answer[RECORD_OUT + 5] = bits_of(number);
+        }
     }
 }
 
-fn put_mode(out: &mut [u8], at: usize, mode: Mode) -> usize {
+// A mode's tag, and what remains of it.
+fn tag_of(mode: Mode) -> u64 {
     match mode {
-        Mode::Off => put_pair(out, at, 0, 0),
-        Mode::Warming(remaining) => put_pair(out, at, 1, remaining as u64),
-        Mode::On => put_pair(out, at, 2, 0),
-        Mode::Cooling(remaining) => put_pair(out, at, 3, remaining as u64),
-        Mode::Service(remaining) => put_pair(out, at, 4, remaining as u64),
+        Mode::Off => 0,
+        Mode::Warming(_) => 1,
+        Mode::On => 2,
+        Mode::Cooling(_) => 3,
+        Mode::Service(_) => 4,
     }
 }
 
-fn put_state(out: &mut [u8], at: usize, state: SetState) -> usize {
-    let mode = state.mode;
-    let mut end = put_mode(out, at, mode);
-    end = put_pair(out, end, state.run as u64, state.clock as u64);
-    end = put_pair(out, end, state.starts as u64, state.stops as u64);
-    put_pair(out, end, state.energy, state.fuel)
+fn remaining_of(mode: Mode) -> u64 {
+    match mode {
+        Mode::Off | Mode::On => 0,
+        Mode::Warming(remaining) | Mode::Cooling(remaining) | Mode::Service(remaining) =>
+            remaining as u64,
+    }
 }
 
-fn put_states(out: &mut [u8], at: usize, states: [SetState; 8]) -> usize {
-    let mut end = at;
+fn put_state(answer: &mut [u64; 142], at: usize, state: SetState)
+    requires { ⌜ at + 8 ≤ 142 ⌝ }
+{
+    let mode = state.mode;
+    answer[at] = tag_of(mode);
+    answer[at + 1] = remaining_of(mode);
+    answer[at + 2] = state.run as u64;
+    answer[at + 3] = state.clock as u64;
+    answer[at + 4] = state.starts as u64;
+    answer[at + 5] = state.stops as u64;
+    answer[at + 6] = state.energy;
+    answer[at + 7] = state.fuel;
+}
+
+fn put_states(answer: &mut [u64; 142], states: [SetState; 8]) {
     let mut i: usize = 0;
     while i < 8 {
         let state = states[i];
-        end = put_state(out, end, state);
+        put_state(answer, STATES_OUT + 8 * i, state);
         i += 1;
     }
-    end
 }
 
-fn put_totals(out: &mut [u8], at: usize, totals: Totals) -> usize {
-    let mut end = put_pair(out, at, totals.offered, totals.load);
-    end = put_pair(out, end, totals.shed, totals.solar);
-    end = put_pair(out, end, totals.charge, totals.spill);
-    end = put_pair(out, end, totals.give, totals.diesel);
-    put_next(out, end, totals.unserved)
+fn put_totals(answer: &mut [u64; 142], totals: Totals) {
+    answer[TOTALS_OUT] = totals.offered;
+    answer[TOTALS_OUT + 1] = totals.load;
+    answer[TOTALS_OUT + 2] = totals.shed;
+    answer[TOTALS_OUT + 3] = totals.solar;
+    answer[TOTALS_OUT + 4] = totals.charge;
+    answer[TOTALS_OUT + 5] = totals.spill;
+    answer[TOTALS_OUT + 6] = totals.give;
+    answer[TOTALS_OUT + 7] = totals.diesel;
+    answer[TOTALS_OUT + 8] = totals.unserved;
 }
 
-fn put_decided(out: &mut [u8], at: usize, decided: [u32; 60]) -> usize {
-    let mut end = at;
+fn put_decided(answer: &mut [u64; 142], decided: [u32; 60]) {
     let mut i: usize = 0;
     while i < 60 {
-        end = put_next(out, end, decided[i] as u64);
+        answer[DECIDED_OUT + i] = decided[i] as u64;
         i += 1;
     }
-    end
 }
 
-// The record's numbers with a space between each two.
-pub(crate) fn put_record(out: &mut [u8], at: usize, run: Run) -> usize {
+pub(crate) fn put_record(answer: &mut [u64; 142], run: Run) {
     let held = run.setpoint;
     let sets = run.sets;
     let totals = run.totals;
     let decided = run.decided;
-    let mut end = put_number(out, at, run.done as u64);
-    end = put_pair(out, end, run.store, run.called as u64);
-    end = put_next(out, end, run.since as u64);
-    end = put_held(out, end, held);
-    end = put_states(out, end, sets);
-    end = put_totals(out, end, totals);
-    put_decided(out, end, decided)
+    answer[RECORD_OUT] = run.done as u64;
+    answer[RECORD_OUT + 1] = run.store;
+    answer[RECORD_OUT + 2] = run.called as u64;
+    answer[RECORD_OUT + 3] = run.since as u64;
+    put_held(answer, held);
+    put_states(answer, sets);
+    put_totals(answer, totals);
+    put_decided(answer, decided);
 }

@@ -14,26 +14,17 @@ run-in-requires c κs = search needs
 inputs-in-requires : tie.Need-inputs-in-requires
 inputs-in-requires c κs = search needs
 
-element-copy-out-room : tie.Need-element-copy-out-room
-element-copy-out-room c = search needs
-
 fill-requires : tie.Need-fill-requires
 fill-requires c κs = search needs
 
-slice-aggregate-put-text : tie.Need-slice-aggregate-put-text
-slice-aggregate-put-text c = search needs
+element-copy-out-wide : tie.Need-element-copy-out-wide
+element-copy-out-wide c = search needs
 
-put-text-requires : tie.Need-put-text-requires
-put-text-requires c κs = search needs
+wide-requires : tie.Need-wide-requires
+wide-requires c κs = search needs
 
-same-length : tie.Need-same-length
-same-length c = search needs
-
-same-length-2 : tie.Need-same-length-2
-same-length-2 c = search needs
-
-returns : tie.Need-returns
-returns c = search needs
+lesser-requires : tie.Need-lesser-requires
+lesser-requires c κs = search needs
 
 slice-relend-prefix-second : tie.Need-slice-relend-prefix-second
 slice-relend-prefix-second c = search needs
@@ -44,17 +35,17 @@ slice-aggregate-second c = simp length-take (omega arith)
 second-requires : tie.Need-second-requires
 second-requires c κs = search needs
 
-put-handed-requires : tie.Need-put-handed-requires
-put-handed-requires c κs = search needs
+put-outcome-requires : tie.Need-put-outcome-requires
+put-outcome-requires c κs = search needs
 
-same-length-3 : tie.Need-same-length-3
-same-length-3 c = search needs
+put-record-requires : tie.Need-put-record-requires
+put-record-requires c κs = search needs
 
-same-length-4 : tie.Need-same-length-4
-same-length-4 c = search needs
+same-length : tie.Need-same-length
+same-length c = search needs
 
-returns-2 : tie.Need-returns-2
-returns-2 c = search needs
+returns : tie.Need-returns
+returns c = search needs
 
 pub answer-case-spec : {M : Type 1} → statement M
 answer-case-spec =
@@ -63,17 +54,14 @@ answer-case-spec =
     station-in-requires
     run-in-requires
     inputs-in-requires
-    element-copy-out-room
     fill-requires
-    slice-aggregate-put-text
-    put-text-requires
-    same-length
-    same-length-2
-    returns
+    element-copy-out-wide
+    wide-requires
+    lesser-requires
     slice-relend-prefix-second
     slice-aggregate-second
     second-requires
-    put-handed-requires
-    same-length-3
-    same-length-4
-    returns-2)
+    put-outcome-requires
+    put-record-requires
+    same-length
+    returns)

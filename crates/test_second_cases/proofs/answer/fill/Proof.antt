@@ -7,16 +7,16 @@ use Rattle.test_second_cases.proofs.answer.fill.Statement.{statement}
 use Rattle.test_second_cases.proofs.answer.fill.Tie as tie
 
 abbrev Inv-loop : tie.InvT-loop
-Inv-loop space₀ i₀ space i = length space ≡ length space₀
+Inv-loop lent₀ i₀ lent i = length lent ≡ length lent₀
 
 abbrev μ-loop : tie.MeasureT-loop
-μ-loop space₀ i₀ space i = length space₀ - i
+μ-loop lent₀ i₀ lent i = length lent₀ - i
 
 loop-holds : tie.Need-loop-holds Inv-loop μ-loop
 loop-holds c = search needs
 
-slice-write-space : tie.Need-slice-write-space Inv-loop μ-loop
-slice-write-space c = search needs
+slice-write-lent : tie.Need-slice-write-lent Inv-loop μ-loop
+slice-write-lent c = search needs
 
 add-i : tie.Need-add-i Inv-loop μ-loop
 add-i c = search needs
@@ -40,7 +40,7 @@ fill-spec =
     Inv-loop
     μ-loop
     loop-holds
-    slice-write-space
+    slice-write-lent
     add-i
     loop-less
     loop-again

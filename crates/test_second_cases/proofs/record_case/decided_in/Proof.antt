@@ -15,20 +15,17 @@ abbrev μ-loop : tie.MeasureT-loop
 loop-holds : tie.Need-loop-holds Inv-loop μ-loop
 loop-holds c = search needs
 
-add-narrow : tie.Need-add-narrow Inv-loop μ-loop
-add-narrow c = search needs
-
-mul-narrow : tie.Need-mul-narrow Inv-loop μ-loop
-mul-narrow c = search needs
-
-element-copy-out-narrow : tie.Need-element-copy-out-narrow Inv-loop μ-loop
-element-copy-out-narrow c = search needs
-
-narrow-requires : tie.Need-narrow-requires Inv-loop μ-loop
-narrow-requires c κs = search needs
+add-decided : tie.Need-add-decided Inv-loop μ-loop
+add-decided c = search needs
 
 mul-decided : tie.Need-mul-decided Inv-loop μ-loop
 mul-decided c = search needs
+
+element-copy-out-decided : tie.Need-element-copy-out-decided Inv-loop μ-loop
+element-copy-out-decided c = search needs
+
+mul-decided-2 : tie.Need-mul-decided-2 Inv-loop μ-loop
+mul-decided-2 c = search needs
 
 array-write-decided : tie.Need-array-write-decided Inv-loop μ-loop
 array-write-decided c = search needs
@@ -52,11 +49,10 @@ decided-in-spec =
     Inv-loop
     μ-loop
     loop-holds
-    add-narrow
-    mul-narrow
-    element-copy-out-narrow
-    narrow-requires
+    add-decided
     mul-decided
+    element-copy-out-decided
+    mul-decided-2
     array-write-decided
     add-i
     loop-less
