@@ -1,11 +1,11 @@
 -- What a call of a second owes, by what refuses it, or by the row that it wrote. Assumes nothing.
-use Prim.Native.Nat.{ℕ, _≤_, _<_}
+use Prim.Native.Nat.{ℕ, _≤_}
 use mathlib.Core.Path.{_≡_, sym, ap, _∙_}
-use mathlib.Core.Bool.{true, false}
+use mathlib.Core.Bool.{true}
 use mathlib.Core.List.{List, _++_}
 use lib.Dec.{leb, ltb}
 use lib.ListN.{length, drop}
-use borrow.Author.Tests.{lt-ltb, le-ltb, le-leb, lt-leb, leb-true}
+use borrow.Author.Tests.{leb-true}
 use Rattle.rules.specs.declared.answers.Outcome.{Outcome}
 use Rattle.rules.specs.declared.answers.Outcome.the-variants.{Refused}
 use Rattle.rules.specs.declared.answers.Refusal.{Refusal}
@@ -15,7 +15,7 @@ use Rattle.rules.specs.declared.station.Station.{Station}
 use Rattle.rules.specs.declared.run.Inputs.{Inputs}
 use Rattle.rules.specs.declared.run.Run.{Run}
 use Rattle.rules.specs.declared.run.Step.{Step}
-use Rattle.rules.specs.Answers.{Answer, accepted, refused, refusalOf, verdictOf, outcomeOf}
+use Rattle.rules.specs.Answers.{Answer, accepted, refusalOf, verdictOf, outcomeOf}
 use Rattle.rules.specs.StationRecord.{someFileGives}
 use Rattle.rules.specs.RunRecord.{mostSeconds, possible}
 use Rattle.rules.specs.Row.{rowText}
@@ -23,34 +23,6 @@ use Rattle.rules.specs.Second.{step, inputsRight, admitted, second, Second}
 use Rattle.rules.proofs.Checks.{passed, last-passed}
 use Rattle.laws.specs.Admitted.{Admitted}
 use Rattle.laws.proofs.Kept.{judged-is, admitted-of}
-
--- ---- what is asked of each second, in its order
-
-module _ (done : ℕ) (x : Inputs) (room : ℕ) where
-  pub run-ended : mostSeconds ≤ done → refused 23 0 ≡ admitted done x room
-  unfolding admitted
-  run-ended h = rw (le-ltb done mostSeconds h)
-
-  module _ (going : done < mostSeconds) where
-    pub inputs-over : inputsRight x ≡ false → refused 19 0 ≡ admitted done x room
-    unfolding admitted
-    inputs-over h = rw (lt-ltb done mostSeconds going, h)
-
-    module _ (right : inputsRight x ≡ true) where
-      pub sheddable-above : x .load < x .sheddable → refused 20 0 ≡ admitted done x room
-      unfolding admitted
-      sheddable-above h = rw (lt-ltb done mostSeconds going, right, lt-leb (x .sheddable) (x .load) h)
-
-      module _ (within : x .sheddable ≤ x .load) where
-        pub buffer-short : room < 256 → refused 26 0 ≡ admitted done x room
-        unfolding admitted
-        buffer-short h = rw (lt-ltb done mostSeconds going, right, le-leb (x .sheddable) (x .load) within, lt-leb 256 room h)
-
-        pub none-refuses : 256 ≤ room → accepted tt ≡ admitted done x room
-        unfolding admitted
-        none-refuses h = rw (lt-ltb done mostSeconds going, right, le-leb (x .sheddable) (x .load) within, le-leb 256 room h)
-
--- ---- the whole call
 
 module _ (st : Station) (r : Run) (x : Inputs) (lent : List ℕ) where
   abbrev answer : Answer Step

@@ -1,6 +1,2 @@
--- The steps of a second for whatever is handed in, and many seconds in one call.
-pub mod Sized
-pub mod InType
-pub mod Parts
-pub mod Steps
+-- Many seconds in one call.
 pub mod Working

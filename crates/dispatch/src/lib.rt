@@ -1,10 +1,3 @@
-// One second of a run, its eleven steps, and many seconds on one judgement.
-pub mod admit;
-pub mod commands;
-mod counts;
-pub mod inputs;
-pub mod parts;
+// One second of a run with its refusals, and many seconds on one judgement.
 pub mod second;
 pub mod seconds;
-pub mod step;
-mod totals;

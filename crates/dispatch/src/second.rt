@@ -1,10 +1,9 @@
 // One second, with a lent buffer: "A second: 25, 24, 23, 19, 20, 26."
 ghost use Rattle.rules.specs.Second.{Second};
-use crate::admit::admit;
-use crate::parts::moment_of;
-use crate::parts::whole;
-use crate::step::step;
+use admission::admit::admit;
 use commitment::configuration::capacities;
+use moments::parts::moment_of;
+use moments::parts::whole;
 use records::possible::possible;
 use rows::row::put_row;
 use rules::answers::Outcome;
@@ -15,6 +14,7 @@ use rules::run::Inputs;
 use rules::run::Run;
 use rules::station::Station;
 use station_record::record::some_file_gives;
+use steps::step::step;
 
 // One second. A refused one hands the record back and leaves the buffer as they were.
 pub fn second(st: Station, run: Run, inputs: Inputs, row: &mut [u8]) -> Handed

@@ -3,18 +3,18 @@ ghost use Prim.Native.Nat.{_*_, _≤_};
 ghost use lib.ListN.{length};
 ghost use Rattle.rules.specs.Seconds.{inputsEach, Seconds};
 ghost use Rattle.dispatch.specs.Working.{Admits, Works};
-use crate::admit::judge_seconds;
-use crate::inputs::first_inputs;
-use crate::parts::moment_of;
-use crate::parts::whole;
-use crate::step::step;
+use admission::admit::judge_seconds;
+use admission::inputs::first_inputs;
 use commitment::configuration::capacities;
+use moments::parts::moment_of;
+use moments::parts::whole;
 use rows::row_numbers::put_row_numbers;
 use rules::limits::ROW_COLUMNS;
 use rules::limits::SECOND_INPUTS;
 use rules::run::Run;
 use rules::run::Worked;
 use rules::station::Station;
+use steps::step::step;
 
 // Seconds of which none is refused, with a place for the row of each.
 fn work_seconds(st: Station, run: Run, inputs: &[u32], count: usize, rows: &mut [u64]) -> Run

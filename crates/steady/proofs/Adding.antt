@@ -23,7 +23,7 @@ use Rattle.gensets.proofs.SharesWalk.{ratingOf}
 use Rattle.modes.proofs.Filled.{Filling, filling-start, filling-at, filling-more}
 use Rattle.steady.specs.Steady.{energyAt, fuelAt, Addable}
 use Rattle.steady.specs.CurveTable.{Tabled, Readable}
-use Rattle.dispatch.proofs.PassedBy.{to-next}
+use Rattle.set_moves.proofs.PassedBy.{to-next}
 
 pub record Adding (sets : List GenSet) (mask diesel cap : ℕ) (energies fuels : List ℕ) (i given : ℕ) (adds burns : List ℕ) : Type 0 where
   pub gave : given ≡ diesel * runningTotal sets mask i / cap

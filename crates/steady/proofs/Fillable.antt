@@ -18,7 +18,7 @@ use Rattle.rules.proofs.Shapes.{Tables}
 use Rattle.rules.proofs.StationFacts.{right-of}
 use Rattle.rules.proofs.Tests.{never}
 use Rattle.laws.proofs.StationAt.{set-at}
-use Rattle.dispatch.proofs.Ready.{at-place, unused-off}
+use Rattle.steps.proofs.Ready.{at-place, unused-off}
 use Rattle.steady.specs.CurveTable.{InRule, Fillable}
 
 module _ (st : Station) (given : someFileGives st ≡ true) (r : Run) (p : possible st r ≡ true) (tables : Tables st) where

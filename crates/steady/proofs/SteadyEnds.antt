@@ -20,13 +20,13 @@ use Rattle.rules.specs.RunRecord.{mostSeconds, possible}
 use Rattle.rules.proofs.Tests.{choice}
 use Rattle.rules.proofs.Tables.{tab-at}
 use Rattle.modes.proofs.Filled.{Filling, filling-start, filling-more, filling-whole}
-use Rattle.dispatch.specs.declared.parts.Moment.{Moment}
-use Rattle.dispatch.specs.Parts.{runOf}
+use Rattle.moments.specs.declared.parts.Moment.{Moment}
+use Rattle.moments.specs.Parts.{runOf}
 use Rattle.steady.specs.Steady.{ranFor, steadyAt, sinceSteady}
-use Rattle.dispatch.specs.Sized.{Small}
+use Rattle.set_moves.specs.Sized.{Small}
 use Rattle.steady.proofs.EventLaws.{none-waited}
 use Rattle.steady.proofs.SteadyLaws.{tab-same, steady-at}
-use Rattle.dispatch.proofs.Ready.{small-at}
+use Rattle.steps.proofs.Ready.{small-at}
 
 -- ---- the beginning
 

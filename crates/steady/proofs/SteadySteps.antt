@@ -28,14 +28,15 @@ use Rattle.flows.specs.Met.{MetBy}
 use Rattle.commitment.specs.declared.commit.Committed.{Committed}
 use Rattle.commitment.specs.Choice.{Rated}
 use Rattle.commitment.specs.Commit.{CommittedBy}
-use Rattle.dispatch.specs.declared.parts.Moment.{Moment}
-use Rattle.dispatch.specs.InType.{countedAllIn, commandedAllIn}
-use Rattle.dispatch.specs.Parts.{runOf, momentAfter, rowOf}
-use Rattle.dispatch.specs.Sized.{Small}
-use Rattle.dispatch.specs.Steps.{ranIn}
-use Rattle.dispatch.proofs.Ready.{ticked-small, on-right, diesel-cap}
-use Rattle.dispatch.proofs.Ruled.{stepped-is, watts-ruled, ran-ruled, ran-switches, all-commanded}
-use Rattle.dispatch.proofs.StepsTaken.{watts-in, stepped-by}
+use Rattle.moments.specs.declared.parts.Moment.{Moment}
+use Rattle.set_moves.specs.InType.{countedAllIn, commandedAllIn}
+use Rattle.moments.specs.Parts.{runOf, momentAfter, rowOf}
+use Rattle.set_moves.specs.Sized.{Small}
+use Rattle.steps.specs.Steps.{ranIn}
+use Rattle.steps.proofs.Ready.{ticked-small, on-right, diesel-cap}
+use Rattle.set_moves.proofs.SetsRuled.{all-commanded}
+use Rattle.steps.proofs.Ruled.{stepped-is, watts-ruled, ran-ruled, ran-switches}
+use Rattle.steps.proofs.StepsTaken.{watts-in, stepped-by}
 use Rattle.steady.specs.declared.steady_step.AfterSecond.{AfterSecond}
 use Rattle.steady.specs.declared.steady_step.Steady.{Steady}
 use Rattle.steady.specs.declared.steady_step.Standing.{Standing}

@@ -13,7 +13,7 @@ use Rattle.rules.specs.Share.{capacity, share}
 use Rattle.rules.specs.Fuel.{fuelRate}
 use Rattle.rules.specs.Modes.{stateAt}
 use Rattle.steady.specs.NextEvent.{waited}
-use Rattle.dispatch.specs.Sized.{Small}
+use Rattle.set_moves.specs.Sized.{Small}
 
 -- a set On after some seconds, with the energy and the fuel that they added
 abbrev pub ranFor : SetState → ℕ → ℕ → ℕ → SetState

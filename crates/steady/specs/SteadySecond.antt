@@ -18,8 +18,8 @@ use Rattle.rules.specs.Second.{step}
 use Rattle.rules.specs.Seconds.{inputsEach}
 use Rattle.modes.specs.Barred.{barredMask}
 use Rattle.commitment.specs.Choice.{Rated}
-use Rattle.dispatch.specs.declared.parts.Moment.{Moment}
-use Rattle.dispatch.specs.Parts.{runOf}
+use Rattle.moments.specs.declared.parts.Moment.{Moment}
+use Rattle.moments.specs.Parts.{runOf}
 use Rattle.dispatch.specs.Working.{Admits, Works}
 use Rattle.steady.specs.declared.steady_step.Steady.{Steady}
 use Rattle.steady.specs.declared.steady_step.Standing.{Standing}

@@ -2,11 +2,11 @@
 ghost use mathlib.Core.Path.{_≡_};
 ghost use Prim.Native.Nat.{_+_, _-_, _≤_, _<_};
 ghost use Rattle.steady.specs.NextEvent.{longest, countedDown, waited, NoOwnEvent, NoEvent, unmoved, unmovedAll};
-use dispatch::commands::every_on;
-use dispatch::commands::has_set;
 use rules::run::Mode;
 use rules::run::SetState;
 use rules::station::GenSet;
+use set_moves::commands::every_on;
+use set_moves::commands::has_set;
 
 // No more seconds than this are worked at a stretch.
 const LONGEST: usize = 4_294_967_295;

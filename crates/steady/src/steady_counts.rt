@@ -2,15 +2,15 @@
 // stand as they were, and what is added to the sets On since stands beside them.
 ghost use mathlib.Core.Path.{_≡_};
 ghost use Prim.Native.Nat.{_<_};
-ghost use Rattle.dispatch.specs.Sized.{Small};
+ghost use Rattle.set_moves.specs.Sized.{Small};
 ghost use Rattle.steady.specs.CurveTable.{Tabled};
 ghost use Rattle.steady.specs.Steady.{ranFor, sinceSteady, energiesAfter, fuelsAfter, Addable, Makeable};
 use crate::curve_table::burned_at;
 use crate::next_event::waited;
-use dispatch::commands::has_set;
 use gensets::share::upto;
 use rules::run::SetState;
 use rules::station::GenSet;
+use set_moves::commands::has_set;
 use words::masks::next_set;
 
 // What a second adds to the counts of the mask's sets, each at its share of the diesel power.

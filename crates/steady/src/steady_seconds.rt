@@ -16,13 +16,13 @@ use crate::steady_walk::Stretch;
 use crate::steady_walk::steady_walk;
 use commitment::configuration::capacity_fitting;
 use commitment::configuration::mask_called;
-use dispatch::commands::command_all;
-use dispatch::parts::Moment;
 use flows::floor::floor_load;
 use modes::masks::barred_mask;
 use modes::masks::on_mask;
+use moments::parts::Moment;
 use rules::run::SetState;
 use rules::station::Station;
+use set_moves::commands::command_all;
 
 // The record after some seconds but for the decided amounts, and how many they are.
 pub(crate) struct AfterSeconds {

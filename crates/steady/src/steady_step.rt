@@ -8,17 +8,17 @@ ghost use Rattle.steady.specs.NextEvent.{NoEvent};
 ghost use Rattle.steady.specs.CurveTable.{Tabled};
 ghost use Rattle.steady.specs.SteadySecond.{Kept, runAt, SteadyStepped};
 use crate::steady_counts::count_steady;
-use dispatch::parts::Moment;
-use dispatch::parts::moment_after;
-use dispatch::parts::row_of;
-use dispatch::step::commit_at;
 use flows::amounts::decide;
 use flows::amounts::oldest;
 use flows::meet::meet_load;
+use moments::parts::Moment;
+use moments::parts::moment_after;
+use moments::parts::row_of;
 use rules::run::Inputs;
 use rules::run::Row;
 use rules::run::SetState;
 use rules::station::Station;
+use steps::step::commit_at;
 
 // What stays the same until the next event: the masks of the sets On and of those called, the capacity and the floor load of the sets
 // On, the sets that are due or in Service, and all states as they were.

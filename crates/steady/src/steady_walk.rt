@@ -1,16 +1,16 @@
 // Steady seconds one after the other, up to the first that calls other sets.
 ghost use Rattle.rules.specs.Seconds.{inputsEach};
 ghost use Rattle.commitment.specs.Choice.{Rated};
-ghost use Rattle.dispatch.specs.Parts.{runOf};
+ghost use Rattle.moments.specs.Parts.{runOf};
 ghost use Rattle.steady.specs.CurveTable.{Tabled};
 ghost use Rattle.steady.specs.Steady.{sinceSteady};
 ghost use Rattle.steady.specs.SteadySecond.{Walkable, Walks};
 use crate::steady_step::Standing;
 use crate::steady_step::Steady;
 use crate::steady_step::steady_step;
+use admission::inputs::first_inputs;
 use commitment::configuration::mask_called;
-use dispatch::inputs::first_inputs;
-use dispatch::parts::Moment;
+use moments::parts::Moment;
 use rows::row_numbers::put_row_numbers;
 use rules::limits::ROW_COLUMNS;
 use rules::limits::SECOND_INPUTS;

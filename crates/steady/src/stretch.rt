@@ -4,14 +4,14 @@ use crate::steady_seconds::AfterSeconds;
 use crate::steady_seconds::kept;
 use crate::steady_seconds::steady_for;
 use crate::steady_seconds::steady_seconds;
+use admission::inputs::first_inputs;
 use commitment::configuration::mask_called;
-use dispatch::inputs::first_inputs;
-use dispatch::parts::Moment;
-use dispatch::step::step;
+use moments::parts::Moment;
 use rows::row_numbers::put_row_numbers;
 use rules::limits::SECOND_INPUTS;
 use rules::run::SetState;
 use rules::station::Station;
+use steps::step::step;
 use words::arithmetic::lesser;
 
 // One second by its eleven steps.

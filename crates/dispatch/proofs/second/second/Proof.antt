@@ -11,9 +11,9 @@ use Rattle.rules.specs.Second.{step}
 use Rattle.rules.proofs.Edges.{second-25, second-24}
 use Rattle.rules.proofs.Shapes.{Tables}
 use Rattle.rows.proofs.RowInBuffer.{row-put}
+use Rattle.steps.proofs.Ready.{rated}
+use Rattle.steps.proofs.Ruled.{stepOf, stepped-is}
 use Rattle.dispatch.proofs.Owed.{refused-owes, accepted-owes, late-refused, none-refused, is-admitted, has-room}
-use Rattle.dispatch.proofs.Ready.{rated}
-use Rattle.dispatch.proofs.Ruled.{stepOf, stepped-is}
 use Rattle.dispatch.proofs.second.second.Statement.{statement}
 use Rattle.dispatch.proofs.second.second.Tie as tie
 

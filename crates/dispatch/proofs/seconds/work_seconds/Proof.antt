@@ -14,13 +14,14 @@ use Rattle.rules.specs.Seconds.{inputsEach}
 use Rattle.laws.specs.Admitted.{Admitted}
 use Rattle.rows.specs.RowNumbers.{rowFirst}
 use Rattle.rules.proofs.Shapes.{Tables}
-use Rattle.dispatch.specs.Parts.{runOf}
-use Rattle.dispatch.specs.Steps.{SteppedBy}
-use Rattle.dispatch.specs.Working.{firstInputs, Admits, Works}
-use Rattle.dispatch.proofs.Admitting.{rest-of}
-use Rattle.dispatch.proofs.Each.{each-at}
-use Rattle.dispatch.proofs.Ready.{rated}
-use Rattle.dispatch.proofs.Ruled.{stepOf, stepped-is}
+use Rattle.moments.specs.Parts.{runOf}
+use Rattle.steps.specs.Steps.{SteppedBy}
+use Rattle.steps.proofs.Ready.{rated}
+use Rattle.steps.proofs.Ruled.{stepOf, stepped-is}
+use Rattle.admission.specs.Admission.{firstInputs}
+use Rattle.admission.proofs.Admitting.{rest-of}
+use Rattle.admission.proofs.Each.{each-at}
+use Rattle.dispatch.specs.Working.{Admits, Works}
 use Rattle.dispatch.proofs.Working.{works-start, works-length, works-step, next-admitted, back-is}
 use Rattle.dispatch.proofs.seconds.work_seconds.Statement.{statement}
 use Rattle.dispatch.proofs.seconds.work_seconds.Tie as tie

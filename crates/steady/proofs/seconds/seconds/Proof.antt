@@ -5,7 +5,7 @@ use native.Mathlib.Omega.{arith}
 use denote.Ref.{now}
 use lib.ListN.{length, take}
 use lib.Seq.{length-take-le}
-use Rattle.dispatch.proofs.Each.{each-length}
+use Rattle.admission.proofs.Each.{each-length}
 use Rattle.dispatch.proofs.WorkedSeconds.{asked-in, places-in, all-admits, all-worked}
 use borrow.Author.Needs.{needs}
 use Rattle.steady.proofs.seconds.seconds.Statement.{statement}

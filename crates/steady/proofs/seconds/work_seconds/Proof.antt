@@ -10,11 +10,11 @@ use Rattle.rules.specs.declared.run.Inputs.{Inputs}
 use Rattle.rules.specs.declared.run.Run.{Run}
 use Rattle.rules.specs.Seconds.{inputsEach}
 use Rattle.rules.proofs.Shapes.{Tables}
-use Rattle.dispatch.specs.Parts.{runOf}
+use Rattle.moments.specs.Parts.{runOf}
 use Rattle.dispatch.specs.Working.{Admits, Works}
-use Rattle.dispatch.proofs.Admitting.{rest-of}
-use Rattle.dispatch.proofs.Each.{each-drop, each-length}
-use Rattle.dispatch.proofs.Ready.{rated}
+use Rattle.admission.proofs.Admitting.{rest-of}
+use Rattle.admission.proofs.Each.{each-drop, each-length}
+use Rattle.steps.proofs.Ready.{rated}
 use Rattle.dispatch.proofs.Working.{works-start, works-length, works-on, first-admitted, back-is}
 use Rattle.steady.specs.SteadySecond.{Workable}
 use Rattle.steady.proofs.seconds.work_seconds.Statement.{statement}

@@ -11,9 +11,9 @@ use Rattle.rules.specs.StationRecord.{someFileGives}
 use Rattle.rules.specs.RunRecord.{possible}
 use Rattle.rules.specs.Seconds.{inputsEach}
 use Rattle.rules.proofs.Shapes.{Tables}
-use Rattle.dispatch.specs.Parts.{runOf}
+use Rattle.moments.specs.Parts.{runOf}
 use Rattle.dispatch.specs.Working.{Admits, Works}
-use Rattle.dispatch.proofs.Ruled.{all-commanded}
+use Rattle.set_moves.proofs.SetsRuled.{all-commanded}
 use Rattle.dispatch.proofs.Working.{first-admitted}
 use Rattle.steady.specs.Steady.{sinceSteady}
 use Rattle.steady.specs.SteadySecond.{commandedSince}

@@ -18,10 +18,11 @@ use Rattle.rules.specs.Seconds.{inputsEach}
 use Rattle.rules.proofs.Shapes.{Tables}
 use Rattle.laws.specs.Admitted.{Admitted}
 use Rattle.rows.specs.RowNumbers.{rowFirst}
-use Rattle.dispatch.specs.Parts.{runOf}
-use Rattle.dispatch.specs.Working.{firstInputs, Admits, Works}
-use Rattle.dispatch.proofs.Admitting.{rest-of}
-use Rattle.dispatch.proofs.Each.{each-at, each-length}
+use Rattle.moments.specs.Parts.{runOf}
+use Rattle.admission.specs.Admission.{firstInputs}
+use Rattle.dispatch.specs.Working.{Admits, Works}
+use Rattle.admission.proofs.Admitting.{rest-of}
+use Rattle.admission.proofs.Each.{each-at, each-length}
 use Rattle.dispatch.proofs.Working.{works-start, works-length, works-step, next-admitted, first-admitted, back-is}
 use Rattle.steady.specs.declared.steady_step.Standing.{Standing}
 use Rattle.steady.specs.NextEvent.{NoEvent}

@@ -12,11 +12,12 @@ use Rattle.rules.specs.Second.{step}
 use Rattle.rules.specs.Seconds.{inputsEach}
 use Rattle.rules.proofs.Shapes.{Tables}
 use Rattle.rows.specs.RowNumbers.{rowFirst}
-use Rattle.dispatch.specs.Parts.{runOf}
-use Rattle.dispatch.specs.Steps.{SteppedBy}
-use Rattle.dispatch.specs.Working.{firstInputs, Admits, Works}
-use Rattle.dispatch.proofs.Each.{each-length, first-each}
-use Rattle.dispatch.proofs.Ruled.{stepped-is}
+use Rattle.moments.specs.Parts.{runOf}
+use Rattle.steps.specs.Steps.{SteppedBy}
+use Rattle.admission.specs.Admission.{firstInputs}
+use Rattle.dispatch.specs.Working.{Admits, Works}
+use Rattle.admission.proofs.Each.{each-length, first-each}
+use Rattle.steps.proofs.Ruled.{stepped-is}
 use Rattle.dispatch.proofs.Working.{next-admitted, works-one}
 use borrow.Author.Needs.{needs}
 use Rattle.steady.proofs.stretch.one_second.Statement.{statement}

@@ -11,9 +11,9 @@ use Rattle.rules.specs.declared.run.Inputs.{Inputs}
 use Rattle.rules.specs.declared.run.Run.{Run}
 use Rattle.rules.specs.declared.run.SetState.{SetState}
 use Rattle.rules.specs.Seconds.{inputsEach}
-use Rattle.dispatch.specs.Parts.{runOf}
+use Rattle.moments.specs.Parts.{runOf}
 use Rattle.dispatch.specs.Working.{Admits, Works}
-use Rattle.dispatch.proofs.Each.{each-length, each-take}
+use Rattle.admission.proofs.Each.{each-length, each-take}
 use Rattle.dispatch.proofs.Working.{first-admitted, admits-first, works-within}
 use Rattle.steady.specs.NextEvent.{NoEvent, unmovedAll}
 use Rattle.steady.specs.SteadySecond.{Workable}

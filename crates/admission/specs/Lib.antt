@@ -1,0 +1,2 @@
+-- What is asked of the seconds of a call.
+pub mod Admission

@@ -1,0 +1,2 @@
+-- Where the totals are the rules' own.
+pub mod TotalsRuled

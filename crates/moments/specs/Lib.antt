@@ -1,0 +1,3 @@
+-- The record in parts, and the station totals as their type holds them.
+pub mod Totals
+pub mod Parts

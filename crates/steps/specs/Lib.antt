@@ -1,0 +1,2 @@
+-- The steps of a second for whatever is handed in.
+pub mod Steps
