@@ -3,9 +3,9 @@ use files::progress::say_read;
 use files::progress::say_worked;
 use files::source::Program;
 use run_machine::state::Machine;
-use simulation::state::Simulation;
-use simulation::state::seconds_done;
-use simulation::state::seconds_left;
+use run_phases::state::Simulation;
+use run_phases::state::seconds_done;
+use run_phases::state::seconds_left;
 
 // Each further 10 million seconds are told.
 const TOLD_EACH: u32 = 10_000_000;

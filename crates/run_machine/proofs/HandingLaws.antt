@@ -9,10 +9,10 @@ use Rattle.rules.specs.declared.run.Inputs.{Inputs}
 use Rattle.rules.specs.Row.{rowHeading}
 use Rattle.rules.proofs.Tests.{never}
 use Rattle.tally.specs.declared.Tally.{Tally}
-use Rattle.simulation.specs.declared.state.Phase.{Phase}
-use Rattle.simulation.specs.declared.state.Simulation.{Simulation}
-use Rattle.simulation.specs.declared.state.Turn.{Turn}
-use Rattle.simulation.specs.declared.state.Wants.{Wants}
+use Rattle.run_phases.specs.declared.state.Phase.{Phase}
+use Rattle.run_phases.specs.declared.state.Simulation.{Simulation}
+use Rattle.run_phases.specs.declared.state.Turn.{Turn}
+use Rattle.run_phases.specs.declared.state.Wants.{Wants}
 use Rattle.simulation.specs.Rows.{rowsWith}
 use Rattle.simulation.specs.Text.{toPrint}
 use Rattle.simulation.specs.Turns.{ComesIn, ComesOn, finished, isBeforeSets, weight}

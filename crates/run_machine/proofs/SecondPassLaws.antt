@@ -13,8 +13,8 @@ use Rattle.tally.specs.declared.Tally.{Tally}
 use Rattle.tally.specs.Tally.{noBytes, talliedOf, sameTally}
 use Rattle.tally.proofs.TallyLaws.{tallied-append}
 use Rattle.sheet_stages.specs.ToCome.{mostPlace}
-use Rattle.simulation.specs.declared.state.Simulation.{Simulation}
-use Rattle.simulation.specs.declared.state.Wants.{Wants}
+use Rattle.run_phases.specs.declared.state.Simulation.{Simulation}
+use Rattle.run_phases.specs.declared.state.Wants.{Wants}
 use Rattle.exchange.specs.declared.action.Why.{Why}
 use Rattle.exchange.specs.declared.action.Word.{Word}
 use Rattle.exchange.specs.declared.event.Event.{Event}

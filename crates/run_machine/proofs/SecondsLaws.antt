@@ -25,11 +25,11 @@ use Rattle.samples.specs.declared.check.Span.{Span}
 use Rattle.samples.specs.Streamed.{sheetSpan, checkedWith, checkedOf}
 use Rattle.input_source.specs.Source.{sourceEnded}
 use Rattle.course.specs.Coming as coming
-use Rattle.simulation.specs.declared.state.Phase.{Phase}
-use Rattle.simulation.specs.declared.state.Simulation.{Simulation}
+use Rattle.run_phases.specs.declared.state.Phase.{Phase}
+use Rattle.run_phases.specs.declared.state.Simulation.{Simulation}
 use Rattle.simulation.specs.Text.{textOf}
 use Rattle.simulation.specs.Turns.{ComesIn, isBeforeSets, rank, weight}
-use Rattle.simulation.specs.Begin.{Refuses, BegunAs}
+use Rattle.run_phases.specs.Begin.{Refuses, BegunAs}
 use Rattle.simulation.proofs.Printed.{Starts, CheckedFor, begins-right}
 use Rattle.exchange.specs.declared.action.Why.{Why}
 use Rattle.exchange.specs.declared.event.Event.{Event}

@@ -15,9 +15,9 @@ use Rattle.rows.specs.AnswerLine.{refusedLine}
 use Rattle.rules.proofs.Tests.{never}
 use Rattle.tally.specs.declared.Tally.{Tally}
 use Rattle.dispatch.specs.Working.{runAfter}
-use Rattle.simulation.specs.declared.state.Phase.{Phase}
-use Rattle.simulation.specs.declared.state.Simulation.{Simulation}
-use Rattle.simulation.specs.declared.state.Wants.{Wants}
+use Rattle.run_phases.specs.declared.state.Phase.{Phase}
+use Rattle.run_phases.specs.declared.state.Simulation.{Simulation}
+use Rattle.run_phases.specs.declared.state.Wants.{Wants}
 use Rattle.simulation.specs.Rows.{rowTexts, setTexts, rowsWith}
 use Rattle.simulation.specs.Text.{textOf, toPrint}
 use Rattle.simulation.specs.Turns.{isBeforeSets}

@@ -13,7 +13,7 @@ use Rattle.rules.specs.Run.{printed}
 use Rattle.rows.specs.AnswerLine.{refusedLine}
 use Rattle.tally.specs.Tally.{noBytes, talliedOf}
 use Rattle.sheet_stages.specs.ToCome.{mostPlace}
-use Rattle.simulation.specs.declared.state.Simulation.{Simulation}
+use Rattle.run_phases.specs.declared.state.Simulation.{Simulation}
 use Rattle.simulation.specs.Rows.{rowsWith, setTexts}
 use Rattle.simulation.specs.Text.{toPrint}
 use Rattle.simulation.specs.Turns.{Comes, isBeforeSets}

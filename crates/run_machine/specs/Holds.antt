@@ -11,8 +11,8 @@ use Rattle.rules.specs.Run.{secondsAsked}
 use Rattle.rows.specs.AnswerLine.{refusedLine}
 use Rattle.tally.specs.declared.Tally.{Tally}
 use Rattle.tally.specs.Tally.{noBytes, talliedOf}
-use Rattle.simulation.specs.declared.state.Simulation.{Simulation}
-use Rattle.simulation.specs.declared.state.Wants.{Wants}
+use Rattle.run_phases.specs.declared.state.Simulation.{Simulation}
+use Rattle.run_phases.specs.declared.state.Wants.{Wants}
 use Rattle.simulation.specs.Turns.{finished, weight}
 use Rattle.exchange.specs.declared.action.Word.{Word}
 use Rattle.exchange.specs.World.{World, leftOf, againOf}

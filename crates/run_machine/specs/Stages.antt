@@ -1,6 +1,6 @@
 -- What each stage asks for, and what changes where something was done or failed.
 use mathlib.Core.Bool.{true}
-use Rattle.simulation.specs.declared.state.Simulation.{Simulation}
+use Rattle.run_phases.specs.declared.state.Simulation.{Simulation}
 use Rattle.exchange.specs.declared.action.Action.{Action}
 use Rattle.exchange.specs.declared.action.Why.{Why}
 use Rattle.exchange.specs.declared.action.Word.{Word}

@@ -7,8 +7,8 @@ use lib.ListN.{length, take}
 use Rattle.rules.specs.declared.answers.Refusal.{Refusal}
 use Rattle.rules.specs.Run.{secondsAsked}
 use Rattle.rows.specs.AnswerLine.{refusedLine}
-use Rattle.simulation.specs.declared.state.Phase.{Phase}
-use Rattle.simulation.specs.declared.state.Wants.{Wants}
+use Rattle.run_phases.specs.declared.state.Phase.{Phase}
+use Rattle.run_phases.specs.declared.state.Wants.{Wants}
 use Rattle.simulation.specs.Turns.{finished, weight}
 use Rattle.exchange.specs.declared.event.Event.{Event}
 use Rattle.exchange.specs.Existing.{isFailed, givesUp}

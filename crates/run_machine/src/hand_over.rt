@@ -7,9 +7,9 @@ use crate::state::Stage;
 use crate::state::stopped;
 use exchange::action::Why;
 use exchange::action::Word;
+use run_phases::state::Phase;
+use run_phases::state::phase_of;
 use simulation::advance::advance;
-use simulation::state::Phase;
-use simulation::state::phase_of;
 
 // One call of the run with the chunk that stands at the start of the buffer.
 pub(crate) fn hand_over(held: Held, buf: &[u8], out: &mut [u8]) -> Machine

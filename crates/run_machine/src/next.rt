@@ -34,7 +34,7 @@ pub fn begin() -> Machine
         held: Held {
             judging: judging(true),
             second: no_bytes(),
-            simulation: simulation::begin::begin(station_bytes(), finish(check()), b""),
+            simulation: run_phases::begin::begin(station_bytes(), finish(check()), b""),
             chunk: 0,
             at: 0,
             ended: false,

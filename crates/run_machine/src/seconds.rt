@@ -12,11 +12,11 @@ use exchange::event::Event;
 use rows::run_lines::put_refused;
 use rules::answers::Outcome;
 use rules::answers::Refusal;
+use run_phases::begin::begin;
+use run_phases::state::Phase;
+use run_phases::state::Simulation;
+use run_phases::state::phase_of;
 use samples::check::finish;
-use simulation::begin::begin;
-use simulation::state::Phase;
-use simulation::state::Simulation;
-use simulation::state::phase_of;
 
 // A refusal is all that is printed, and needs no second pass.
 fn refused(held: Held, refusal: Refusal, out: &mut [u8]) -> Machine

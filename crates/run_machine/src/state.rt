@@ -10,8 +10,8 @@ use judging::state::Judging;
 use judging::state::SAMPLES;
 use judging::state::judge_asks;
 use rules::answers::Refusal;
-use simulation::state::Simulation;
-use simulation::state::Wants;
+use run_phases::state::Simulation;
+use run_phases::state::Wants;
 use tally::Tally;
 
 // The places of the arguments after both files: SECONDS, and the word that bin/run adds.

@@ -9,7 +9,7 @@ use crate::state::Stage;
 use crate::state::stopped;
 use exchange::action::Why;
 use exchange::event::Event;
-use simulation::state::Wants;
+use run_phases::state::Wants;
 
 // What the run wants after the bytes that were written.
 fn write_done(held: Held, wants: Wants, buf: &[u8], out: &mut [u8]) -> Machine

@@ -9,9 +9,9 @@ use lib.Dec.{leb}
 use lib.Seq.{drop-drop}
 use borrow.Author.Tests.{leb-true, leb-false}
 use Rattle.rules.specs.declared.run.Inputs.{Inputs}
-use Rattle.simulation.specs.declared.state.Simulation.{Simulation}
-use Rattle.simulation.specs.declared.state.Turn.{Turn}
-use Rattle.simulation.specs.declared.state.Wants.{Wants}
+use Rattle.run_phases.specs.declared.state.Simulation.{Simulation}
+use Rattle.run_phases.specs.declared.state.Turn.{Turn}
+use Rattle.run_phases.specs.declared.state.Wants.{Wants}
 use Rattle.simulation.specs.Text.{toPrint}
 use Rattle.simulation.specs.Turns.{Comes, ComesOn, weight, isBeforeSets, Ended, Moved}
 use Rattle.simulation.specs.Calls.{goesOn, Stopped, Called}

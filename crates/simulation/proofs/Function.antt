@@ -33,22 +33,22 @@ use Rattle.samples.specs.Streamed.{sheetSpan, checkedOf}
 use Rattle.rules.specs.Chunks.{joined, Feeds}
 use Rattle.samples.proofs.CheckLaws.{span-place}
 use Rattle.samples.proofs.Chunks as checks
-use Rattle.simulation.specs.declared.state.Phase.{Phase}
-use Rattle.simulation.specs.declared.state.Simulation.{Simulation}
-use Rattle.simulation.specs.declared.state.Turn.{Turn}
+use Rattle.run_phases.specs.declared.state.Phase.{Phase}
+use Rattle.run_phases.specs.declared.state.Simulation.{Simulation}
+use Rattle.run_phases.specs.declared.state.Turn.{Turn}
 use Rattle.rules.specs.Row.{rowHeading}
 use Rattle.simulation.specs.Rows.{rowsWith}
 use Rattle.simulation.specs.Text.{textOf}
 use Rattle.simulation.specs.Turns.{ComesIn}
 use Rattle.simulation.specs.Calls.{Called}
-use Rattle.simulation.specs.Begin.{BegunAs}
+use Rattle.run_phases.specs.Begin.{BegunAs}
 use Rattle.simulation.specs.Program.{Calls, Prints, mostCalls, SlicesHeld, HeldByTypes, Answered, Whole}
 use Rattle.simulation.proofs.Printed.{Starts, CheckedFor, begins-right}
 use Rattle.simulation.proofs.Program.{calls-print, OfSome, some-inputs, calls-end}
-use Rattle.simulation.proofs.state.Simulation.{the-type}
-use Rattle.simulation.proofs.state.Simulation.Laws.{the-laws}
-use Rattle.simulation.proofs.begin.begin.Reads as begin-reads
-use Rattle.simulation.proofs.begin.begin.Kinds as begin-kinds
+use Rattle.run_phases.proofs.state.Simulation.{the-type}
+use Rattle.run_phases.proofs.state.Simulation.Laws.{the-laws}
+use Rattle.run_phases.proofs.begin.begin.Reads as begin-reads
+use Rattle.run_phases.proofs.begin.begin.Kinds as begin-kinds
 use Rattle.simulation.proofs.advance.advance.Reads as advance-reads
 use Rattle.simulation.proofs.advance.advance.Kinds as advance-kinds
 

@@ -4,7 +4,6 @@ pub mod TurnLaws
 pub mod RowsTurn
 pub mod PhaseTurns
 pub mod CallLaws
-pub mod BeginLaws
 pub mod Printed
 pub mod Program
 pub mod Function

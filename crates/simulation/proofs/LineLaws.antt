@@ -11,8 +11,8 @@ use Rattle.rules.specs.declared.answers.Outcome.{Outcome}
 use Rattle.rules.specs.declared.answers.Refusal.{Refusal}
 use Rattle.rows.specs.Written.{TextPut}
 use Rattle.rows.proofs.Room.{put-means, none-means}
-use Rattle.simulation.specs.declared.state.Turn.{Turn}
-use Rattle.simulation.specs.declared.state.Wants.{Wants}
+use Rattle.run_phases.specs.declared.state.Turn.{Turn}
+use Rattle.run_phases.specs.declared.state.Wants.{Wants}
 use Rattle.simulation.specs.Text.{lineOf}
 use Rattle.simulation.specs.Turns.{LineMoved, withLine, waitingFor}
 

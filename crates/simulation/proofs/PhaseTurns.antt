@@ -18,12 +18,13 @@ use Rattle.rules.specs.Row.{setLines}
 use Rattle.rules.proofs.Tests.{never}
 use Rattle.rows.specs.SetLine.{setLine}
 use Rattle.rows.proofs.SetLine.{set-lines-step}
-use Rattle.simulation.specs.declared.state.Phase.{Phase}
-use Rattle.simulation.specs.declared.state.Simulation.{Simulation}
-use Rattle.simulation.specs.declared.state.Turn.{Turn}
-use Rattle.simulation.specs.declared.state.Wants.{Wants}
+use Rattle.run_phases.specs.declared.state.Phase.{Phase}
+use Rattle.run_phases.specs.declared.state.Simulation.{Simulation}
+use Rattle.run_phases.specs.declared.state.Turn.{Turn}
+use Rattle.run_phases.specs.declared.state.Wants.{Wants}
+use Rattle.run_phases.specs.Phases.{phaseAfter}
 use Rattle.simulation.specs.Rows.{setTexts}
-use Rattle.simulation.specs.Text.{textOf, toPrint, lineOf, phaseAfter, setLineAt, withPhase}
+use Rattle.simulation.specs.Text.{textOf, toPrint, lineOf, setLineAt, withPhase}
 use Rattle.simulation.specs.Turns.{ComesIn, Comes, rank, weight, finished, isBeforeSets, Moved, LineBy, LineMoved, withLine, waitingFor, putAt}
 use Rattle.simulation.proofs.TurnLaws.{put-front, put-rest, put-size, quiet}
 

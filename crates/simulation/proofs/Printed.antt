@@ -23,12 +23,12 @@ use Rattle.rows_in_force.specs.Held.{heldFrom}
 use Rattle.course.specs.declared.state.Course.{Course}
 use Rattle.dispatch.specs.Working.{rowsOf, runAfter}
 use Rattle.course.proofs.Started.{started-run, started-coming}
-use Rattle.simulation.specs.declared.state.Phase.{Phase}
-use Rattle.simulation.specs.declared.state.Simulation.{Simulation}
+use Rattle.run_phases.specs.declared.state.Phase.{Phase}
+use Rattle.run_phases.specs.declared.state.Simulation.{Simulation}
 use Rattle.simulation.specs.Rows.{rowTexts, setTexts, rowsWith}
 use Rattle.simulation.specs.Text.{textOf, toPrint}
 use Rattle.simulation.specs.Turns.{ComesIn, Comes}
-use Rattle.simulation.specs.Begin.{Refuses, Starting, BegunAs}
+use Rattle.run_phases.specs.Begin.{Refuses, Starting, BegunAs}
 
 -- ---- "A row holds until the next": the rows of the definition are those of the inputs held
 

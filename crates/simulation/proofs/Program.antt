@@ -9,10 +9,10 @@ use Rattle.rules.specs.declared.run.Inputs.{Inputs}
 use Rattle.rules.specs.Bytes.{SliceHeld}
 use Rattle.rules.specs.Chunks.{joined}
 use Rattle.course.proofs.Started.{coming-length}
-use Rattle.simulation.specs.declared.state.Phase.{Phase}
-use Rattle.simulation.specs.declared.state.Simulation.{Simulation}
-use Rattle.simulation.specs.declared.state.Turn.{Turn}
-use Rattle.simulation.specs.declared.state.Wants.{Wants}
+use Rattle.run_phases.specs.declared.state.Phase.{Phase}
+use Rattle.run_phases.specs.declared.state.Simulation.{Simulation}
+use Rattle.run_phases.specs.declared.state.Turn.{Turn}
+use Rattle.run_phases.specs.declared.state.Wants.{Wants}
 use Rattle.simulation.specs.Text.{textOf, toPrint}
 use Rattle.simulation.specs.Turns.{ComesIn, Comes, ComesOn, weight, finished}
 use Rattle.simulation.specs.Calls.{Stopped, Called}

@@ -33,13 +33,14 @@ use Rattle.course.specs.Coming as coming
 use Rattle.course.specs.Coming.{Coming}
 use Rattle.course_work.specs.Moves.{HaltedFor, Moves}
 use Rattle.course.proofs.Started.{coming-length}
-use Rattle.simulation.specs.declared.state.Phase.{Phase}
-use Rattle.simulation.specs.declared.state.Simulation.{Simulation}
-use Rattle.simulation.specs.declared.state.Turn.{Turn}
-use Rattle.simulation.specs.declared.state.Wants.{Wants}
+use Rattle.run_phases.specs.declared.state.Phase.{Phase}
+use Rattle.run_phases.specs.declared.state.Simulation.{Simulation}
+use Rattle.run_phases.specs.declared.state.Turn.{Turn}
+use Rattle.run_phases.specs.declared.state.Wants.{Wants}
+use Rattle.run_phases.specs.Phases.{phaseFor, wantsFor}
 use Rattle.simulation.specs.Rows.{rowTexts, rowsWith}
 use Rattle.simulation.specs.Text.{textOf, toPrint, withPhase}
-use Rattle.simulation.specs.Turns.{ComesIn, Comes, rank, weight, isBeforeSets, Ended, Moved, phaseFor, wantsFor, withRows, waitingFor, putAt, SomeAsked}
+use Rattle.simulation.specs.Turns.{ComesIn, Comes, rank, weight, isBeforeSets, Ended, Moved, withRows, waitingFor, putAt, SomeAsked}
 use Rattle.simulation.proofs.LineLaws.{back-is}
 use Rattle.simulation.proofs.TurnLaws.{put-front, put-rest, put-size, with-split, with-none, quiet}
 

@@ -14,9 +14,9 @@ use Rattle.rules.specs.Row.{rowText}
 use Rattle.row_texts.specs.RowLines as lines
 use Rattle.dispatch.specs.Working.{rowsOf, runAfter}
 use Rattle.dispatch.proofs.Working.{run-on, rows-on}
-use Rattle.simulation.specs.declared.state.Simulation.{Simulation}
-use Rattle.simulation.specs.declared.state.Turn.{Turn}
-use Rattle.simulation.specs.declared.state.Wants.{Wants}
+use Rattle.run_phases.specs.declared.state.Simulation.{Simulation}
+use Rattle.run_phases.specs.declared.state.Turn.{Turn}
+use Rattle.run_phases.specs.declared.state.Wants.{Wants}
 use Rattle.simulation.specs.Rows.{rowTexts, setTexts, rowsWith}
 use Rattle.simulation.specs.Text.{textOf, toPrint}
 use Rattle.simulation.specs.Turns.{Comes, weight, isBeforeSets, Ended, Moved, putAt}

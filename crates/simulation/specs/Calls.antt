@@ -5,9 +5,9 @@ use mathlib.Core.Bool.{Bool, true, false}
 use mathlib.Core.List.{List, [], _++_}
 use lib.ListN.{length, take, drop}
 use Rattle.rules.specs.declared.run.Inputs.{Inputs}
-use Rattle.simulation.specs.declared.state.Simulation.{Simulation}
-use Rattle.simulation.specs.declared.state.Turn.{Turn}
-use Rattle.simulation.specs.declared.state.Wants.{Wants}
+use Rattle.run_phases.specs.declared.state.Simulation.{Simulation}
+use Rattle.run_phases.specs.declared.state.Turn.{Turn}
+use Rattle.run_phases.specs.declared.state.Wants.{Wants}
 use Rattle.simulation.specs.Text.{toPrint}
 use Rattle.simulation.specs.Turns.{Comes, ComesOn, weight, finished, isBeforeSets}
 

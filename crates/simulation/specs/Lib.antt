@@ -3,5 +3,4 @@ pub mod Rows
 pub mod Text
 pub mod Turns
 pub mod Calls
-pub mod Begin
 pub mod Program

@@ -7,9 +7,9 @@ use mathlib.Core.List.{List, [], _∷_, _++_}
 use lib.ListN.{length, take, drop}
 use Rattle.rules.specs.Bytes.{AreBytes, SliceHeld}
 use Rattle.rules.specs.Chunks.{joined}
-use Rattle.simulation.specs.declared.state.Simulation.{Simulation}
-use Rattle.simulation.specs.declared.state.Turn.{Turn}
-use Rattle.simulation.specs.declared.state.Wants.{Wants}
+use Rattle.run_phases.specs.declared.state.Simulation.{Simulation}
+use Rattle.run_phases.specs.declared.state.Turn.{Turn}
+use Rattle.run_phases.specs.declared.state.Wants.{Wants}
 use Rattle.simulation.specs.Turns.{weight, finished}
 
 -- the chunk that a call is handed: the first of those left, and an empty one once the file has ended

@@ -1,5 +1,5 @@
 -- Document 01, what the run program prints, by what is still to come: the text that a run in a phase has yet to hand over.
-use Prim.Native.Nat.{ℕ, suc, _+_, min}
+use Prim.Native.Nat.{ℕ, suc}
 use mathlib.Core.List.{List, [], _++_}
 use lib.ListN.{take, drop}
 use lib.Dec.{ltb}
@@ -12,8 +12,8 @@ use Rattle.rules.specs.Modes.{stateAt}
 use Rattle.rules.specs.Row.{rowHeading, setHeading, setLines}
 use Rattle.rows.specs.AnswerLine.{refusedLine}
 use Rattle.rows.specs.SetLine.{setLine}
-use Rattle.simulation.specs.declared.state.Phase.{Phase}
-use Rattle.simulation.specs.declared.state.Simulation.{Simulation}
+use Rattle.run_phases.specs.declared.state.Phase.{Phase}
+use Rattle.run_phases.specs.declared.state.Simulation.{Simulation}
 use Rattle.simulation.specs.Rows.{rowsWith, setTexts}
 
 -- what a run in this phase has yet to hand over, where the seconds that are left are handed these inputs; a run that broke off hands
@@ -44,16 +44,6 @@ lineOf Phase.SetHeading states = setHeading
 lineOf (Phase.SetLine place) states = setLineAt states place
 lineOf Phase.Over states = []
 lineOf Phase.Broken states = []
-
--- and the phase after it
-abbrev pub phaseAfter : Phase → Phase
-phaseAfter (Phase.Refusal refusal) = Phase.Over
-phaseAfter Phase.Heading = Phase.Seconds
-phaseAfter Phase.Seconds = Phase.Seconds
-phaseAfter Phase.SetHeading = Phase.SetLine 0
-phaseAfter (Phase.SetLine place) = Phase.SetLine (min (suc place) 8)
-phaseAfter Phase.Over = Phase.Over
-phaseAfter Phase.Broken = Phase.Broken
 
 -- ---- a run of which one thing changed
 

@@ -6,15 +6,15 @@ use mathlib.Core.List.{List, [], _++_}
 use lib.ListN.{length, take, drop}
 use lib.Dec.{leb}
 use Rattle.rules.specs.declared.run.Inputs.{Inputs}
-use Rattle.course.specs.declared.state.Halt.{Halt}
 use Rattle.course.specs.declared.state.Moved as moves
 use Rattle.course.specs.Coming as coming
 use Rattle.course.specs.Coming.{Coming}
-use Rattle.simulation.specs.declared.state.Phase.{Phase}
-use Rattle.simulation.specs.declared.state.Simulation.{Simulation}
-use Rattle.simulation.specs.declared.state.Turn.{Turn}
-use Rattle.simulation.specs.declared.state.Wants.{Wants}
-use Rattle.simulation.specs.Text.{toPrint, lineOf, phaseAfter, withPhase}
+use Rattle.run_phases.specs.declared.state.Phase.{Phase}
+use Rattle.run_phases.specs.declared.state.Simulation.{Simulation}
+use Rattle.run_phases.specs.declared.state.Turn.{Turn}
+use Rattle.run_phases.specs.declared.state.Wants.{Wants}
+use Rattle.run_phases.specs.Phases.{phaseAfter, phaseFor, wantsFor}
+use Rattle.simulation.specs.Text.{toPrint, lineOf, withPhase}
 
 -- ---- the inputs that are still to come
 
@@ -135,22 +135,7 @@ LineMoved t out r out′ = LineBy (leb 256 (length out - t .written)) t out r ou
 
 -- ---- some seconds
 
--- a run in the phase of its seconds goes on where its course does, comes to the sets once no second is left, and breaks off with it
-abbrev pub phaseFor : Halt → Phase
-phaseFor Halt.Further = Phase.Seconds
-phaseFor Halt.Input = Phase.Seconds
-phaseFor Halt.Room = Phase.Seconds
-phaseFor Halt.AllWorked = Phase.SetHeading
-phaseFor Halt.Broken = Phase.Broken
-
-abbrev pub wantsFor : Halt → Wants
-wantsFor Halt.Further = Wants.Further
-wantsFor Halt.Input = Wants.Input
-wantsFor Halt.Room = Wants.Room
-wantsFor Halt.AllWorked = Wants.Further
-wantsFor Halt.Broken = Wants.Further
-
--- after a call of its course, of which so many bytes were put
+-- a turn after a call of its run's course, of which so many bytes were put
 abbrev pub withRows : Turn → moves.Moved → ℕ → Turn
 withRows t m bytes =
     record {

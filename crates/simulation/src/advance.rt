@@ -1,10 +1,10 @@
 // THE CALL of a run: some of the sample file in, some of the text out.
 ghost use mathlib.Core.Path.{_≡_};
 ghost use Rattle.simulation.specs.Calls.{goesOn, Called};
-use crate::state::Simulation;
-use crate::state::Turn;
-use crate::state::Wants;
 use crate::turn::turn;
+use run_phases::state::Simulation;
+use run_phases::state::Turn;
+use run_phases::state::Wants;
 use words::arithmetic::lesser;
 
 fn goes_on(wants: Wants) -> bool

@@ -4,12 +4,8 @@ ghost use Prim.Native.Nat.{_≤_};
 ghost use mathlib.Core.List.{[]};
 ghost use lib.ListN.{length};
 ghost use Rattle.rows.specs.Written.{TextPut};
-ghost use Rattle.simulation.specs.Text.{lineOf, phaseAfter, withPhase};
+ghost use Rattle.simulation.specs.Text.{lineOf, setLineAt, withPhase};
 ghost use Rattle.simulation.specs.Turns.{LineMoved};
-use crate::state::Phase;
-use crate::state::Simulation;
-use crate::state::Turn;
-use crate::state::Wants;
 use course::state::set_states;
 use rows::run_lines::put_refused;
 use rows::run_lines::put_row_heading;
@@ -19,6 +15,11 @@ use rules::answers::Outcome;
 use rules::answers::Refusal;
 use rules::limits::LEAST_ROW_BUFFER;
 use rules::run::SetState;
+use run_phases::phases::phase_after;
+use run_phases::state::Phase;
+use run_phases::state::Simulation;
+use run_phases::state::Turn;
+use run_phases::state::Wants;
 
 // No line, where one would have room.
 fn put_nothing(tail: &mut [u8]) -> Outcome
@@ -40,8 +41,6 @@ fn put_set(states: [SetState; 8], place: usize, tail: &mut [u8]) -> Outcome
     put_set_line((place + 1) as u32, state, tail)
 }
 
-ghost use Rattle.simulation.specs.Text.{setLineAt};
-
 // The line that a phase has, at the front of the buffer's tail.
 fn put_line_of(phase: Phase, states: [SetState; 8], tail: &mut [u8]) -> Outcome
     ensures { λ r. ⌜ TextPut (lineOf phase states) (now (tail .entry)) r (now (tail .exit)) ⌝ }
@@ -54,29 +53,6 @@ fn put_line_of(phase: Phase, states: [SetState; 8], tail: &mut [u8]) -> Outcome
         Phase::SetLine(place) => put_set(states, place, tail),
         Phase::Over => put_nothing(tail),
         Phase::Broken => put_nothing(tail),
-    }
-}
-
-fn next_place(place: usize) -> usize
-    ensures { λ r. ⌜ r ≡ min (suc place) 8 ⌝ }
-{
-    if place < 8 { place + 1 } else { 8 }
-}
-
-ghost use Prim.Native.Nat.{suc, min};
-
-// The phase after its line.
-fn phase_after(phase: Phase) -> Phase
-    ensures { λ r. ⌜ r ≡ phaseAfter phase ⌝ }
-{
-    match phase {
-        Phase::Refusal(_) => Phase::Over,
-        Phase::Heading => Phase::Seconds,
-        Phase::Seconds => Phase::Seconds,
-        Phase::SetHeading => Phase::SetLine(0),
-        Phase::SetLine(place) => Phase::SetLine(next_place(place)),
-        Phase::Over => Phase::Over,
-        Phase::Broken => Phase::Broken,
     }
 }
 

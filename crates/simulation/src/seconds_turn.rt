@@ -2,20 +2,22 @@
 ghost use mathlib.Core.Path.{_≡_};
 ghost use Prim.Native.Nat.{_+_, _*_, _≤_, _<_};
 ghost use lib.ListN.{length};
-ghost use Rattle.simulation.specs.declared.state.Phase.{Phase};
-ghost use Rattle.simulation.specs.Turns.{phaseFor, wantsFor, SomeAsked, Moved};
+ghost use Rattle.run_phases.specs.declared.state.Phase.{Phase};
+ghost use Rattle.simulation.specs.Turns.{SomeAsked, Moved};
 use crate::line_turn::waiting;
 use crate::line_turn::with_phase;
-use crate::state::Phase;
-use crate::state::Simulation;
-use crate::state::Turn;
-use crate::state::Wants;
-use course::state::Halt;
 use course::state::seconds_to_work;
 use course_work::work::work;
 use row_texts::put_rows::put_rows;
 use rules::limits::LEAST_ROW_BUFFER;
 use rules::limits::ROW_COLUMNS;
+use run_phases::phases::least_room;
+use run_phases::phases::phase_for;
+use run_phases::phases::wants_for;
+use run_phases::state::Phase;
+use run_phases::state::Simulation;
+use run_phases::state::Turn;
+use run_phases::state::Wants;
 use words::arithmetic::lesser;
 use words::arithmetic::wide;
 
@@ -24,19 +26,6 @@ const MOST_BATCH: usize = 256;
 
 // "row buffer under 256 bytes", and no row needs more than 153 bytes of them.
 const MOST_ROW: usize = 153;
-
-// A buffer that has rows and less room than this is handed over: a turn costs as much for a few seconds as for hundreds.
-const FAIR_ROOM: usize = 8192;
-
-// The least room that a turn is to have, where so many bytes are written.
-fn least_room(written: usize) -> usize
-    ensures { λ r. ⌜ (256 ≤ r) × (written ≡ 0 → r ≡ 256) ⌝ }
-{
-    if written == 0 {
-        return LEAST_ROW_BUFFER;
-    }
-    FAIR_ROOM
-}
 
 // How many seconds one turn works: as many as have room, whatever their rows are.
 fn batch(left: u32, room: usize) -> usize
@@ -47,30 +36,6 @@ fn batch(left: u32, room: usize) -> usize
         lesser(wide(left), MOST_BATCH),
         (room - (LEAST_ROW_BUFFER - MOST_ROW)) / MOST_ROW,
     )
-}
-
-fn phase_for(halt: Halt) -> Phase
-    ensures { λ r. ⌜ r ≡ phaseFor halt ⌝ }
-{
-    match halt {
-        Halt::Further => Phase::Seconds,
-        Halt::Input => Phase::Seconds,
-        Halt::Room => Phase::Seconds,
-        Halt::AllWorked => Phase::SetHeading,
-        Halt::Broken => Phase::Broken,
-    }
-}
-
-fn wants_for(halt: Halt) -> Wants
-    ensures { λ r. ⌜ r ≡ wantsFor halt ⌝ }
-{
-    match halt {
-        Halt::Further => Wants::Further,
-        Halt::Input => Wants::Input,
-        Halt::Room => Wants::Room,
-        Halt::AllWorked => Wants::Further,
-        Halt::Broken => Wants::Further,
-    }
 }
 
 // As many seconds as the lent rows have places for, and the text of their rows into the buffer's tail.

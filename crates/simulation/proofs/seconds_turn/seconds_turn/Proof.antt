@@ -3,6 +3,7 @@ use mathlib.Core.Path.{sym, _∙_}
 use native.Mathlib.Omega.{arith}
 use denote.Ref.{now}
 use lib.ListN.{length-take}
+use Rattle.run_phases.proofs.RoomLaws.{row-room, first-room}
 use Rattle.simulation.proofs.RowsTurn.{none-left-turn, no-room-turn}
 use borrow.Author.Needs.{needs}
 use Rattle.simulation.proofs.seconds_turn.seconds_turn.Statement.{statement}
@@ -27,10 +28,12 @@ waiting-requires : tie.Need-waiting-requires
 waiting-requires c κs = search needs
 
 returns-2 : tie.Need-returns-2
-returns-2 c = rw (c .waiting .ensures) (no-room-turn (c .before .before .before .before .before .before .before .before .before .args .t) (now (c .before .before .before .before .before .before .before .before .before .args .chunk)) (c .before .before .before .before .before .before .before .before .before .args .ended) (now (c .before .before .before .before .before .before .before .before .before .args .out)) (c .before .before .before .before .before .before .before .before .before .pre .0) (c .before .before .before .before .before .before .before .before .before .pre .1) (c .before .before .before .before .before .before .before .before .before .pre .2) (c .before .before .least-room .result) (c .before .before .least-room .ensures .1) (c .before .if2 .taken))
+returns-2 c = rw (c .waiting .ensures) (no-room-turn (c .before .before .before .before .before .before .before .before .before .args .t) (now (c .before .before .before .before .before .before .before .before .before .args .chunk)) (c .before .before .before .before .before .before .before .before .before .args .ended) (now (c .before .before .before .before .before .before .before .before .before .args .out)) (c .before .before .before .before .before .before .before .before .before .pre .0) (c .before .before .before .before .before .before .before .before .before .pre .1) (c .before .before .before .before .before .before .before .before .before .pre .2) (c .before .before .least-room .result) (λ none. c .before .before .least-room .ensures ∙ first-room (c .before .before .before .before .before .before .before .before .before .args .t .written) none) (c .before .if2 .taken))
 
 batch-requires : tie.Need-batch-requires
-batch-requires c κs = search needs
+batch-requires c κs =
+    let room = row-room (c .before .before .before .before .before .before .before .before .args .t .written) in
+    (omega (arith, c .before .before .before .if1 .left), omega (arith, c .if2 .left, c .before .least-room .ensures, room))
 
 mul-numbers : tie.Need-mul-numbers
 mul-numbers c = search needs

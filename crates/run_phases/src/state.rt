@@ -23,8 +23,8 @@ pub enum Phase {
 }
 
 pub struct Simulation {
-    pub(crate) phase: Phase,
-    pub(crate) course: Course,
+    pub phase: Phase,
+    pub course: Course,
 }
 
 // What a call ended for.

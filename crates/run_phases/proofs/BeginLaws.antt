@@ -9,8 +9,8 @@ use Rattle.rules.specs.Answers.{Answer, accepted, refused, numberAndPlace, refu
 use Rattle.samples.specs.declared.check.Span.{Span}
 use Rattle.course.specs.declared.begin.Begun.{Begun}
 use Rattle.course.specs.Begin as course
-use Rattle.simulation.specs.declared.state.Phase.{Phase}
-use Rattle.simulation.specs.Begin.{Refuses, BegunAs}
+use Rattle.run_phases.specs.declared.state.Phase.{Phase}
+use Rattle.run_phases.specs.Begin.{Refuses, BegunAs}
 
 module _ (b : Begun) where
   -- a refusal in the paper's numbers

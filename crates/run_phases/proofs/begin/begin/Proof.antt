@@ -4,10 +4,10 @@ use denote.Ref.{now}
 use Rattle.rules.specs.Run.{secondsAsked}
 use Rattle.station.specs.Stations.{stationWith}
 use Rattle.samples.specs.Streamed.{checkedOf}
-use Rattle.simulation.proofs.BeginLaws.{begun-accepted, begun-refused}
+use Rattle.run_phases.proofs.BeginLaws.{begun-accepted, begun-refused}
 use borrow.Author.Needs.{needs}
-use Rattle.simulation.proofs.begin.begin.Statement.{statement}
-use Rattle.simulation.proofs.begin.begin.Tie as tie
+use Rattle.run_phases.proofs.begin.begin.Statement.{statement}
+use Rattle.run_phases.proofs.begin.begin.Tie as tie
 
 course-of-requires : tie.Need-course-of-requires
 course-of-requires c κs = search needs

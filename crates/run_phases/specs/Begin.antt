@@ -9,8 +9,8 @@ use Rattle.rules.specs.RunRecord.{start}
 use Rattle.records.specs.NoRun.{noRun}
 use Rattle.samples.specs.declared.check.Span.{Span}
 use Rattle.course.specs.Begin.{Before}
-use Rattle.simulation.specs.declared.state.Phase.{Phase}
-use Rattle.simulation.specs.declared.state.Simulation.{Simulation}
+use Rattle.run_phases.specs.declared.state.Phase.{Phase}
+use Rattle.run_phases.specs.declared.state.Simulation.{Simulation}
 
 -- all that it prints is this refusal, whichever was refused
 pub record Refuses (number place : ℕ) (s : Simulation) : Type 0 where

@@ -1,6 +1,7 @@
+-- `phase_after` meets its contract. Assumes nothing.
 use borrow.Author.Needs.{needs}
-use Rattle.simulation.proofs.line_turn.phase_after.Statement.{statement}
-use Rattle.simulation.proofs.line_turn.phase_after.Tie as tie
+use Rattle.run_phases.proofs.phases.phase_after.Statement.{statement}
+use Rattle.run_phases.proofs.phases.phase_after.Tie as tie
 
 enum-told : tie.Need-enum-told
 enum-told c = search needs

@@ -3,7 +3,7 @@ ghost use mathlib.Core.List.{[]};
 ghost use Rattle.rules.specs.Run.{secondsAsked};
 ghost use Rattle.samples.specs.Streamed.{checkedOf};
 ghost use Rattle.station.specs.Stations.{stationWith};
-ghost use Rattle.simulation.specs.Begin.{BegunAs};
+ghost use Rattle.run_phases.specs.Begin.{BegunAs};
 use crate::state::Phase;
 use crate::state::Simulation;
 use course::begin::course_of;

@@ -1,0 +1,3 @@
+-- What a beginning owes, and the room of a turn.
+pub mod BeginLaws
+pub mod RoomLaws
