@@ -1,5 +1,5 @@
 -- The cells of a row, left to right, and the values under their headings. Assumes nothing.
-use Prim.Native.Nat.{ℕ, _≤_, _<_}
+use Prim.Native.Nat.{ℕ, suc, _≤_, _<_}
 use mathlib.Core.Path.{_≡_, refl, ap, subst, _∙_}
 use mathlib.Core.List.{List, [], _∷_}
 use native.Mathlib.Omega.{arith}
@@ -15,35 +15,32 @@ use Rattle.sheet.specs.declared.numbers.CellValue.{CellValue}
 use Rattle.sheet.specs.declared.numbers.CellValue.the-variants.{Value, Malformed, OverLimit}
 use Rattle.sheet_headings.specs.Headings.{columnsOf}
 use Rattle.sheet.specs.Cells.{cellOf}
-use Rattle.sheet.specs.Rows.{cellRefusal, sampleUnder, rowOfValues, rowOfCells}
+use Rattle.sheet.specs.Rows.{cellRefusal, powerColumns, sampleUnder, rowOfValues, rowOfCells}
 use Rattle.sheet.proofs.numbers.CellValue.{the-type}
 
--- ---- the value of the first column that has a name other than the time's
+-- ---- the value of the first column after the time's that has a name
 
-module _ (name : ℕ) (c : Columns) (time x y z : ℕ) (power : 0 < name) where
+module _ (name : ℕ) (c : Columns) (x y z : ℕ) where
   abbrev under : ℕ
-  under = valueUnder name (columnsOf c) (time ∷ x ∷ y ∷ z ∷ [])
-
-  no-time : name ≡ 0 → ⊥
-  no-time e = omega arith
+  under = valueUnder name (powerColumns c) (x ∷ y ∷ z ∷ [])
 
   pub under-second : name ≡ c .second → x ≡ under
   unfolding valueUnder
-  under-second a = rw (ne-eqb name 0 no-time, eq-eqb name (c .second) a)
+  under-second a = rw (eq-eqb name (c .second) a)
 
   module _ (a : name ≡ c .second → ⊥) where
     pub under-third : name ≡ c .third → y ≡ under
     unfolding valueUnder
-    under-third b = rw (ne-eqb name 0 no-time, ne-eqb name (c .second) a, eq-eqb name (c .third) b)
+    under-third b = rw (ne-eqb name (c .second) a, eq-eqb name (c .third) b)
 
     module _ (b : name ≡ c .third → ⊥) where
       pub under-fourth : name ≡ c .fourth → z ≡ under
       unfolding valueUnder
-      under-fourth d = rw (ne-eqb name 0 no-time, ne-eqb name (c .second) a, ne-eqb name (c .third) b, eq-eqb name (c .fourth) d)
+      under-fourth d = rw (ne-eqb name (c .second) a, ne-eqb name (c .third) b, eq-eqb name (c .fourth) d)
 
       pub under-none : (name ≡ c .fourth → ⊥) → 0 ≡ under
       unfolding valueUnder
-      under-none d = rw (ne-eqb name 0 no-time, ne-eqb name (c .second) a, ne-eqb name (c .third) b, ne-eqb name (c .fourth) d)
+      under-none d = rw (ne-eqb name (c .second) a, ne-eqb name (c .third) b, ne-eqb name (c .fourth) d)
 
 -- ---- the values of a row, each under its heading
 
@@ -55,10 +52,18 @@ module _ (c : Columns) (at x y z : ℕ) where
   unfolding valueUnder
   time-under = refl
 
-  pub under-headings : (load solar sheddable : ℕ) → load ≡ valueUnder 1 (columnsOf c) vs → solar ≡ valueUnder 2 (columnsOf c) vs → sheddable ≡ valueUnder 3 (columnsOf c) vs
+  -- a name other than the time's is that of no column before the others
+  power-under : (k : ℕ) → valueUnder (suc k) (powerColumns c) (x ∷ y ∷ z ∷ []) ≡ valueUnder (suc k) (columnsOf c) vs
+  unfolding valueUnder
+  power-under k = rw (ne-eqb (suc k) 0 (λ e. omega arith)) refl
+
+  abbrev ValueIs : ℕ → ℕ → Type 0
+  ValueIs name value = value ≡ valueUnder name (powerColumns c) (x ∷ y ∷ z ∷ [])
+
+  pub under-headings : (load solar sheddable : ℕ) → ValueIs 1 load → ValueIs 2 solar → ValueIs 3 sheddable
       → record { at = at; load = load; solar = solar; sheddable = sheddable } ≡ sampleUnder c vs
   unfolding sampleUnder tab
-  under-headings load solar sheddable l o s = rw (l, o, s, time-under)
+  under-headings load solar sheddable l o s = rw (l, o, s, power-under 0, power-under 1, power-under 2, time-under)
 
 -- ---- 20, of the values
 

@@ -1,6 +1,6 @@
 -- Document 01, "The sample file": what a row comes to in code.
 use Prim.Native.Nat.{ℕ}
-use mathlib.Core.List.{List}
+use mathlib.Core.List.{List, [], _∷_}
 use Rattle.rules.specs.declared.samples.Sample.{Sample}
 use Rattle.rules.specs.Answers.{Answer, accepted, refusalOf, _>>=_}
 use Rattle.rules.specs.Lines.{Line}
@@ -27,6 +27,10 @@ abbrev pub rowIn : Columns → ℕ → Line → Answer Sample
 rowIn columns line l = do
   values ← rowValues sampleSheet (columnsOf columns) line l
   accepted (sampleOf values)
+
+-- the names of the columns after the time's
+abbrev pub powerColumns : Columns → List ℕ
+powerColumns columns = columns .second ∷ columns .third ∷ columns .fourth ∷ []
 
 -- the values of its cells, in the file's order, each under its heading
 unfoldable pub sampleUnder : Columns → List ℕ → Sample

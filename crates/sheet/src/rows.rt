@@ -1,10 +1,8 @@
 // A row: "11, 17, cells left to right 18 before 19, then 20".
 ghost use mathlib.Core.Path.{_≡_};
-ghost use Prim.Native.Nat.{ℕ, _<_};
 ghost use mathlib.Core.List.{[], _∷_};
 ghost use Rattle.rules.specs.SampleFile.{valueUnder};
-ghost use Rattle.sheet_headings.specs.Headings.{columnsOf};
-ghost use Rattle.sheet.specs.Rows.{rowOf, rowIn, rowOfCells, rowOfValues, sampleUnder, cellRefusal};
+ghost use Rattle.sheet.specs.Rows.{rowOf, rowIn, rowOfCells, rowOfValues, powerColumns, cellRefusal};
 use crate::numbers::CellValue;
 use crate::numbers::cell_under;
 use rules::answers::Refusal;
@@ -37,8 +35,8 @@ fn refusal_of(line: u64, cell: CellValue) -> Refusal
 }
 
 // The value of the first column after the time's that has this name.
-fn value_under(name: u8, columns: Columns, powers: Powers) -> u32
-    ensures { λ r. ⌜ ((time : ℕ) → 0 < name → r ≡ valueUnder name (columnsOf columns) (time ∷ powers .second ∷ powers .third ∷ powers .fourth ∷ [])) ⌝ }
+pub fn value_under(name: u8, columns: Columns, powers: Powers) -> u32
+    ensures { λ r. ⌜ r ≡ valueUnder name (powerColumns columns) (powers .second ∷ powers .third ∷ powers .fourth ∷ []) ⌝ }
 {
     if name == columns.second {
         return powers.second;
@@ -52,23 +50,10 @@ fn value_under(name: u8, columns: Columns, powers: Powers) -> u32
     0
 }
 
-// The row of a time and three powers, each under its heading.
-pub fn sample_under(columns: Columns, at: u32, powers: Powers) -> Sample
-    ensures { λ r. ⌜ r ≡ sampleUnder columns (at ∷ powers .second ∷ powers .third ∷ powers .fourth ∷ []) ⌝ }
-{
-    Sample {
-        at,
-        load: value_under(1, columns, powers),
-        solar: value_under(2, columns, powers),
-        sheddable: value_under(3, columns, powers),
-    }
-}
-
 // 20: "sheddable load above load".
 fn agreeing(line: u64, columns: Columns, at: u32, powers: Powers) -> RowRead
     ensures { λ r. ⌜ rowOf r ≡ rowOfValues columns line (at ∷ powers .second ∷ powers .third ∷ powers .fourth ∷ []) ⌝ }
 {
-    // not by `sample_under`: its one caller is the usual row, so that it costs no call there
     let sample = Sample {
         at,
         load: value_under(1, columns, powers),

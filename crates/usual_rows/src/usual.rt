@@ -14,7 +14,7 @@ use rules::limits::MOST_TIME_DIGITS;
 use rules::samples::Sample;
 use sheet::numbers::last_worth;
 use sheet::rows::Powers;
-use sheet::rows::sample_under;
+use sheet::rows::value_under;
 use sheet_headings::headings::Columns;
 use words::arithmetic::byte_u32;
 
@@ -232,7 +232,12 @@ pub fn usual_row(columns: Columns, text: &[u8], at: usize) -> Usual
     let EndRead::Next(next) = end_from(text, cells_end) else {
         return Usual::Other;
     };
-    let sample = sample_under(columns, time, powers);
+    let sample = Sample {
+        at: time,
+        load: value_under(1, columns, powers),
+        solar: value_under(2, columns, powers),
+        sheddable: value_under(3, columns, powers),
+    };
     if sample.load < sample.sheddable {
         return Usual::Other;
     }

@@ -1,5 +1,4 @@
 -- `sheet::rows::agreeing` meets its contract. Assumes nothing.
-use native.Mathlib.Omega.{arith}
 use mathlib.Core.Path.{_≡_}
 use mathlib.Core.List.{[], _∷_}
 use borrow.Author.Needs.{needs}
@@ -27,7 +26,7 @@ Is c =
 sample-is : (c : tie.After-value-under3) → Is c
 sample-is c =
     let a = c .before .before .before .args in
-    under-headings (a .columns) (a .at) _ _ _ _ _ _ (c .before .before .value-under .ensures (a .at) (omega arith)) (c .before .value-under2 .ensures (a .at) (omega arith)) (c .value-under3 .ensures (a .at) (omega arith))
+    under-headings (a .columns) (a .at) _ _ _ _ _ _ (c .before .before .value-under .ensures) (c .before .value-under2 .ensures) (c .value-under3 .ensures)
 
 returns : tie.Need-returns
 returns c =

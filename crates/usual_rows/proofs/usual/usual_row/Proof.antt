@@ -11,7 +11,7 @@ use Rattle.usual_rows.specs.declared.usual.CellRead.{CellRead}
 use Rattle.usual_rows.specs.declared.usual.PowersRead.{PowersRead}
 use Rattle.usual_rows.specs.declared.usual.EndRead.{EndRead}
 use Rattle.usual_rows.specs.Usual.{TimeTaken, EndTaken, timeOf, powersOf, endOf}
-use Rattle.sheet.proofs.RowLaws.{row-whole}
+use Rattle.sheet.proofs.RowLaws.{row-whole, under-headings}
 use Rattle.usual_rows.proofs.UsualLaws.{cell-end}
 use Rattle.usual_rows.proofs.PowersLaws.{three-end, powers-line}
 use borrow.Author.Needs.{needs}
@@ -95,22 +95,28 @@ enum-told-3 c = search needs
 returns-5 : tie.Need-returns-5
 returns-5 c = search needs
 
-sample-under-requires : tie.Need-sample-under-requires
-sample-under-requires c κs = search needs
+value-under-requires : tie.Need-value-under-requires
+value-under-requires c κs = search needs
+
+value-under-requires-2 : tie.Need-value-under-requires-2
+value-under-requires-2 c κs = search needs
+
+value-under-requires-3 : tie.Need-value-under-requires-3
+value-under-requires-3 c κs = search needs
 
 returns-6 : tie.Need-returns-6
 returns-6 c = search needs
 
 returns-7 : tie.Need-returns-7
 returns-7 c =
-    let next = c .before .before .before .before in
+    let next = c .before .before .before .before .before .before in
     let cells = next .before .before .before .before in
     let time = cells .before .before .before .before in
     let columns = time .before .before .before .before .before .before .before .before .args .columns in
     let seconds = time .time-end .given .0 .1 .0 in
     let named = time .before .before .before .before .powers-named .ensures (not-false _ (time .before .before .before .if2 .left)) in
     powers-line columns (textIn time) (placeIn time) (time .time-end .given .0 .0) (cells .cells-end .given .0 .0) seconds (cells .cells-end .given .0 .1 .0) (next .next .given .0 .0) named (room time) (time-read time) (powers-read cells) (end-read next) (Usual.Row _ _)
-    (refl, λ line. row-whole columns line _ _ (c .before .before .sample-under .ensures) (c .if3 .left))
+    (refl, λ line. row-whole columns line _ _ (under-headings columns seconds _ _ _ _ _ _ (c .before .before .before .before .value-under .ensures) (c .before .before .before .value-under2 .ensures) (c .before .before .value-under3 .ensures)) (c .if3 .left))
 
 pub usual-row-spec : {M : Type 1} → statement M
 usual-row-spec =
@@ -132,6 +138,8 @@ usual-row-spec =
     enum-known-next
     enum-told-3
     returns-5
-    sample-under-requires
+    value-under-requires
+    value-under-requires-2
+    value-under-requires-3
     returns-6
     returns-7)
