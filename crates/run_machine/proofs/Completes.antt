@@ -20,12 +20,12 @@ use Rattle.exchange.proofs.Words.{isAnswer, answer-of}
 use Rattle.exchange.proofs.WellLaws.{well-keep}
 use Rattle.judging.specs.declared.state.JudgeStage.{JudgeStage}
 use Rattle.judging.proofs.AskLaws.{reading-room}
-use Rattle.run_machine.specs.declared.state.Stage.{Stage}
-use Rattle.run_machine.specs.declared.state.Machine.{Machine}
-use Rattle.run_machine.specs.Stages.{asks, asksOf}
-use Rattle.run_machine.specs.Given.{Given, text, RightCall}
-use Rattle.run_machine.specs.Holds.{Stopped, Holds}
-use Rattle.run_machine.specs.Steps.{Well, Steps, Starting, Opens}
+use Rattle.run_stages.specs.declared.state.Stage.{Stage}
+use Rattle.run_stages.specs.declared.state.Machine.{Machine}
+use Rattle.run_stages.specs.Stages.{asks, asksOf}
+use Rattle.run_stages.specs.Given.{Given, text, RightCall}
+use Rattle.run_stages.specs.Holds.{Stopped, Holds}
+use Rattle.run_machine.specs.Steps.{Steps, Starting, Opens}
 use Rattle.run_machine.proofs.Program.{Opened, Stepped, open-owes, step-owes, at-stop}
 use Rattle.run_machine.proofs.Existing.{MachineHeld, run-exists}
 

@@ -16,14 +16,14 @@ use Rattle.exchange.specs.World.{World}
 use Rattle.exchange.specs.Existing.{WorldHeld, EventHeld, Answered, Lists}
 use Rattle.exchange.proofs.ExistLaws.{such-lists}
 use Rattle.exchange.proofs.EventHeld.{event-of-held, held-of-event}
-use Rattle.run_machine.specs.declared.state.Machine.{Machine}
-use Rattle.run_machine.specs.Stages.{asksOf}
-use Rattle.run_machine.specs.Given.{Given}
-use Rattle.run_machine.specs.Holds.{Holds, stepsLeft}
+use Rattle.run_stages.specs.declared.state.Machine.{Machine}
+use Rattle.run_stages.specs.Stages.{asksOf}
+use Rattle.run_stages.specs.Given.{Given}
+use Rattle.run_stages.specs.Holds.{Holds, stepsLeft}
 use Rattle.run_machine.specs.Steps.{Steps, Starting, Opens}
 use Rattle.run_machine.proofs.Program.{Opened, Stepped, open-owes, step-owes}
-use Rattle.run_machine.proofs.state.Machine.{the-type}
-use Rattle.run_machine.proofs.state.Machine.Laws.{the-laws}
+use Rattle.run_stages.proofs.state.Machine.{the-type}
+use Rattle.run_stages.proofs.state.Machine.Laws.{the-laws}
 use Rattle.run_machine.proofs.next.begin.Kinds as begin-kinds
 use Rattle.run_machine.proofs.next.next.Kinds as next-kinds
 

@@ -23,20 +23,20 @@ use Rattle.exchange.proofs.Words.{wordOf, isAnswer, no-stop}
 use Rattle.judging.proofs.AskLaws.{reading-asks}
 use Rattle.judging.specs.declared.state.JudgeStage.{JudgeStage}
 use Rattle.judging.specs.Stages.{judgeAsks}
-use Rattle.run_machine.specs.declared.state.Stage.{Stage}
-use Rattle.run_machine.specs.declared.state.Held.{Held}
-use Rattle.run_machine.specs.declared.state.Machine.{Machine}
-use Rattle.run_machine.specs.Stages.{asks, asksOf}
-use Rattle.run_machine.specs.Given.{Given, text, Called, Agreed, Sets}
-use Rattle.run_machine.specs.Holds.{Stopped, HoldsAt, Holds, stepsLeft, secondsOf}
+use Rattle.run_stages.specs.declared.state.Stage.{Stage}
+use Rattle.run_stages.specs.declared.state.Held.{Held}
+use Rattle.run_stages.specs.declared.state.Machine.{Machine}
+use Rattle.run_stages.specs.Stages.{asks, asksOf}
+use Rattle.run_stages.specs.Given.{Given, text, Called, Agreed, Sets}
+use Rattle.run_stages.specs.Holds.{Stopped, HoldsAt, Holds, stepsLeft, secondsOf}
 use Rattle.run_machine.specs.Steps.{Steps, Starting, Opens}
-use Rattle.run_machine.proofs.StopLaws.{so-far}
+use Rattle.run_stages.proofs.StopLaws.{so-far}
 use Rattle.run_machine.proofs.next.begin.Reads as begin-reads
 use Rattle.run_machine.proofs.next.begin.Kinds as begin-kinds
 use Rattle.run_machine.proofs.next.next.Reads as next-reads
 use Rattle.run_machine.proofs.next.next.Kinds as next-kinds
-use Rattle.run_machine.proofs.state.asked.Reads as asked-reads
-use Rattle.run_machine.proofs.state.asked.Kinds as asked-kinds
+use Rattle.run_stages.proofs.state.asked.Reads as asked-reads
+use Rattle.run_stages.proofs.state.asked.Kinds as asked-kinds
 
 -- ---- calls of which only what their contracts ensure is known
 

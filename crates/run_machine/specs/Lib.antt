@@ -1,5 +1,2 @@
--- The program `run`: what it asks for, what holds at each stage, how many steps are left, and what each step owes.
-pub mod Stages
-pub mod Given
-pub mod Holds
+-- The program `run`: what its step owes.
 pub mod Steps

@@ -1,5 +1,5 @@
 -- `begin` meets its contract. Assumes nothing.
-use Rattle.run_machine.proofs.CallingLaws.{opens-so}
+use Rattle.run_machine.proofs.StepLaws.{opens-so}
 use borrow.Author.Needs.{needs}
 use Rattle.run_machine.proofs.next.begin.Statement.{statement}
 use Rattle.run_machine.proofs.next.begin.Tie as tie

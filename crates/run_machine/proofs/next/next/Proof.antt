@@ -1,5 +1,5 @@
 -- THE STEP meets its contract. Assumes nothing.
-use Rattle.run_machine.proofs.StopLaws.{small-steps, large-steps}
+use Rattle.run_machine.proofs.StepLaws.{small-steps, large-steps}
 use denote.Ref.{now}
 use native.Mathlib.Omega.{arith}
 use borrow.Author.Needs.{needs}

@@ -1,9 +1,9 @@
 -- `step` meets its contract. Assumes nothing.
-use Rattle.run_machine.proofs.SecondPassLaws.{to-second-pass, answer-steps}
-use Rattle.run_machine.specs.Steps.{StepsFrom}
-use Rattle.run_machine.specs.declared.state.Machine.{Machine}
-use Rattle.run_machine.specs.declared.state.Stage.{Stage}
-use Rattle.run_machine.proofs.StopLaws.{stop-steps, at-stage}
+use Rattle.run_machine.proofs.StepLaws.{to-second-pass, answer-steps, at-stage}
+use Rattle.run_stages.specs.StageSteps.{StepsFrom}
+use Rattle.run_stages.specs.declared.state.Machine.{Machine}
+use Rattle.run_stages.specs.declared.state.Stage.{Stage}
+use Rattle.run_stages.proofs.StopLaws.{stop-steps}
 use denote.Ref.{now}
 use mathlib.Core.Path.{refl, sym, subst}
 use borrow.Author.Needs.{needs}

@@ -1,0 +1,2 @@
+-- What the parts of these steps owe.
+pub mod Calls
