@@ -8,6 +8,19 @@ use crate::numbers::number_at;
 use rules::answers::Refusal;
 use rules::answers::Verdict;
 use station_fields::layout;
+use station_fields::layout::BATTERY_AT;
+use station_fields::layout::BATTERY_ENTRY;
+use station_fields::layout::BATTERY_PART;
+use station_fields::layout::CONFIGURATION_SIZE;
+use station_fields::layout::CONFIGURATIONS_ENTRY;
+use station_fields::layout::CONFIGURATIONS_PART;
+use station_fields::layout::CONTROL_AT;
+use station_fields::layout::CONTROL_ENTRY;
+use station_fields::layout::CONTROL_PART;
+use station_fields::layout::SET_SIZE;
+use station_fields::layout::SETS_AT;
+use station_fields::layout::SETS_ENTRY;
+use station_fields::layout::SETS_PART;
 
 // The count that the entry at this place has.
 pub(crate) fn count_at(s: &[u8], place: usize) -> u64
@@ -43,38 +56,20 @@ pub(crate) fn contents_right(s: &[u8]) -> Verdict
     if layout::MOST_FILE < size {
         return Verdict::Refused(Refusal::StationSize);
     }
-    if !entry_right(
-        s,
-        layout::CONTROL_ENTRY,
-        layout::CONTROL_PART,
-        layout::CONTROL_AT,
-    ) {
+    if !entry_right(s, CONTROL_ENTRY, CONTROL_PART, CONTROL_AT) {
         return Verdict::Refused(Refusal::ContentsEntry(1));
     }
-    if !entry_right(
-        s,
-        layout::BATTERY_ENTRY,
-        layout::BATTERY_PART,
-        layout::BATTERY_AT,
-    ) {
+    if !entry_right(s, BATTERY_ENTRY, BATTERY_PART, BATTERY_AT) {
         return Verdict::Refused(Refusal::ContentsEntry(2));
     }
-    if !entry_right(s, layout::SETS_ENTRY, layout::SETS_PART, layout::SETS_AT) {
+    if !entry_right(s, SETS_ENTRY, SETS_PART, SETS_AT) {
         return Verdict::Refused(Refusal::ContentsEntry(3));
     }
-    let configs_at = layout::SETS_AT + layout::SET_SIZE * count_at(s, layout::SETS_ENTRY) as usize;
-    if !entry_right(
-        s,
-        layout::CONFIGURATIONS_ENTRY,
-        layout::CONFIGURATIONS_PART,
-        configs_at,
-    ) {
+    let configs_at = SETS_AT + SET_SIZE * count_at(s, SETS_ENTRY) as usize;
+    if !entry_right(s, CONFIGURATIONS_ENTRY, CONFIGURATIONS_PART, configs_at) {
         return Verdict::Refused(Refusal::ContentsEntry(4));
     }
-    if size
-        != configs_at
-            + layout::CONFIGURATION_SIZE * count_at(s, layout::CONFIGURATIONS_ENTRY) as usize
-    {
+    if size != configs_at + CONFIGURATION_SIZE * count_at(s, CONFIGURATIONS_ENTRY) as usize {
         return Verdict::Refused(Refusal::ContentsSize);
     }
     Verdict::Accepted
