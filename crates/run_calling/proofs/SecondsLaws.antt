@@ -27,10 +27,10 @@ use Rattle.input_source.specs.Source.{sourceEnded}
 use Rattle.course.specs.Coming as coming
 use Rattle.run_phases.specs.declared.state.Phase.{Phase}
 use Rattle.run_phases.specs.declared.state.Simulation.{Simulation}
-use Rattle.simulation.specs.Text.{textOf}
-use Rattle.simulation.specs.Turns.{ComesIn, isBeforeSets, rank, weight}
+use Rattle.run_texts.specs.Text.{textOf}
+use Rattle.run_texts.specs.Coming.{ComesIn, isBeforeSets, rank, weight}
 use Rattle.run_phases.specs.Begin.{Refuses, BegunAs}
-use Rattle.simulation.proofs.Printed.{Starts, CheckedFor, begins-right}
+use Rattle.run_texts.proofs.Printed.{Starts, CheckedFor, begins-right}
 use Rattle.exchange.specs.declared.action.Why.{Why}
 use Rattle.exchange.specs.declared.event.Event.{Event}
 use Rattle.exchange.specs.World.{World}

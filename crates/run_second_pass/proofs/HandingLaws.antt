@@ -13,9 +13,9 @@ use Rattle.run_phases.specs.declared.state.Phase.{Phase}
 use Rattle.run_phases.specs.declared.state.Simulation.{Simulation}
 use Rattle.run_phases.specs.declared.state.Turn.{Turn}
 use Rattle.run_phases.specs.declared.state.Wants.{Wants}
-use Rattle.simulation.specs.Rows.{rowsWith}
-use Rattle.simulation.specs.Text.{toPrint}
-use Rattle.simulation.specs.Turns.{ComesIn, ComesOn, finished, isBeforeSets, weight}
+use Rattle.run_texts.specs.Rows.{rowsWith}
+use Rattle.run_texts.specs.Text.{toPrint}
+use Rattle.run_texts.specs.Coming.{ComesIn, ComesOn, finished, isBeforeSets, weight}
 use Rattle.simulation.specs.Calls as calls
 use Rattle.simulation.specs.Calls.{Called}
 use Rattle.simulation.proofs.Program.{comes-length, over-by}

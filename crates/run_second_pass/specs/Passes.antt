@@ -6,7 +6,7 @@ use mathlib.Core.List.{List, [], _++_}
 use lib.ListN.{length, take}
 use Rattle.run_phases.specs.declared.state.Phase.{Phase}
 use Rattle.run_phases.specs.declared.state.Wants.{Wants}
-use Rattle.simulation.specs.Turns.{finished, weight}
+use Rattle.run_texts.specs.Coming.{finished, weight}
 use Rattle.exchange.specs.World.{World, leftOf}
 use Rattle.run_stages.specs.declared.state.Held.{Held}
 use Rattle.run_stages.specs.declared.state.Machine.{Machine}

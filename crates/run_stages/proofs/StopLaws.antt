@@ -18,9 +18,9 @@ use Rattle.dispatch.specs.Working.{runAfter}
 use Rattle.run_phases.specs.declared.state.Phase.{Phase}
 use Rattle.run_phases.specs.declared.state.Simulation.{Simulation}
 use Rattle.run_phases.specs.declared.state.Wants.{Wants}
-use Rattle.simulation.specs.Rows.{rowTexts, setTexts, rowsWith}
-use Rattle.simulation.specs.Text.{textOf, toPrint}
-use Rattle.simulation.specs.Turns.{isBeforeSets}
+use Rattle.run_texts.specs.Rows.{rowTexts, setTexts, rowsWith}
+use Rattle.run_texts.specs.Text.{textOf, toPrint}
+use Rattle.run_texts.specs.Coming.{isBeforeSets}
 use Rattle.exchange.specs.declared.action.Why.{Why}
 use Rattle.exchange.specs.declared.action.Word.{Word}
 use Rattle.exchange.specs.declared.event.Event.{Event}

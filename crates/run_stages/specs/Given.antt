@@ -14,9 +14,9 @@ use Rattle.rows.specs.AnswerLine.{refusedLine}
 use Rattle.tally.specs.Tally.{noBytes, talliedOf}
 use Rattle.sheet_stages.specs.ToCome.{mostPlace}
 use Rattle.run_phases.specs.declared.state.Simulation.{Simulation}
-use Rattle.simulation.specs.Rows.{rowsWith, setTexts}
-use Rattle.simulation.specs.Text.{toPrint}
-use Rattle.simulation.specs.Turns.{Comes, isBeforeSets}
+use Rattle.run_texts.specs.Rows.{rowsWith, setTexts}
+use Rattle.run_texts.specs.Text.{toPrint}
+use Rattle.run_texts.specs.Coming.{Comes, isBeforeSets}
 use Rattle.exchange.specs.Events.{Begins}
 use Rattle.judging.specs.Holds.{Files}
 

@@ -13,7 +13,7 @@ use Rattle.tally.specs.declared.Tally.{Tally}
 use Rattle.tally.specs.Tally.{noBytes, talliedOf}
 use Rattle.run_phases.specs.declared.state.Simulation.{Simulation}
 use Rattle.run_phases.specs.declared.state.Wants.{Wants}
-use Rattle.simulation.specs.Turns.{finished, weight}
+use Rattle.run_texts.specs.Coming.{finished, weight}
 use Rattle.exchange.specs.declared.action.Word.{Word}
 use Rattle.exchange.specs.World.{World, leftOf, againOf}
 use Rattle.exchange.specs.Existing.{givesUp}

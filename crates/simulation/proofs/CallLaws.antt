@@ -12,8 +12,9 @@ use Rattle.rules.specs.declared.run.Inputs.{Inputs}
 use Rattle.run_phases.specs.declared.state.Simulation.{Simulation}
 use Rattle.run_phases.specs.declared.state.Turn.{Turn}
 use Rattle.run_phases.specs.declared.state.Wants.{Wants}
-use Rattle.simulation.specs.Text.{toPrint}
-use Rattle.simulation.specs.Turns.{Comes, ComesOn, weight, isBeforeSets, Ended, Moved}
+use Rattle.run_texts.specs.Text.{toPrint}
+use Rattle.run_texts.specs.Coming.{Comes, ComesOn, weight, isBeforeSets}
+use Rattle.simulation.specs.Turns.{Ended, Moved}
 use Rattle.simulation.specs.Calls.{goesOn, Stopped, Called}
 
 -- whether a further turn is to come, as a number

@@ -37,13 +37,13 @@ use Rattle.run_phases.specs.declared.state.Phase.{Phase}
 use Rattle.run_phases.specs.declared.state.Simulation.{Simulation}
 use Rattle.run_phases.specs.declared.state.Turn.{Turn}
 use Rattle.rules.specs.Row.{rowHeading}
-use Rattle.simulation.specs.Rows.{rowsWith}
-use Rattle.simulation.specs.Text.{textOf}
-use Rattle.simulation.specs.Turns.{ComesIn}
+use Rattle.run_texts.specs.Rows.{rowsWith}
+use Rattle.run_texts.specs.Text.{textOf}
+use Rattle.run_texts.specs.Coming.{ComesIn}
 use Rattle.simulation.specs.Calls.{Called}
 use Rattle.run_phases.specs.Begin.{BegunAs}
 use Rattle.simulation.specs.Program.{Calls, Prints, mostCalls, SlicesHeld, HeldByTypes, Answered, Whole}
-use Rattle.simulation.proofs.Printed.{Starts, CheckedFor, begins-right}
+use Rattle.run_texts.proofs.Printed.{Starts, CheckedFor, begins-right}
 use Rattle.simulation.proofs.Program.{calls-print, OfSome, some-inputs, calls-end}
 use Rattle.run_phases.proofs.state.Simulation.{the-type}
 use Rattle.run_phases.proofs.state.Simulation.Laws.{the-laws}

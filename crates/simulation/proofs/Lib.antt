@@ -4,6 +4,5 @@ pub mod TurnLaws
 pub mod RowsTurn
 pub mod PhaseTurns
 pub mod CallLaws
-pub mod Printed
 pub mod Program
 pub mod Function

@@ -13,7 +13,7 @@ use Rattle.rows.specs.Written.{TextPut}
 use Rattle.rows.proofs.Room.{put-means, none-means}
 use Rattle.run_phases.specs.declared.state.Turn.{Turn}
 use Rattle.run_phases.specs.declared.state.Wants.{Wants}
-use Rattle.simulation.specs.Text.{lineOf}
+use Rattle.run_texts.specs.Text.{lineOf}
 use Rattle.simulation.specs.Turns.{LineMoved, withLine, waitingFor}
 
 -- ---- the tail of a buffer that was lent, and the buffer when it has come back

@@ -23,9 +23,10 @@ use Rattle.run_phases.specs.declared.state.Simulation.{Simulation}
 use Rattle.run_phases.specs.declared.state.Turn.{Turn}
 use Rattle.run_phases.specs.declared.state.Wants.{Wants}
 use Rattle.run_phases.specs.Phases.{phaseAfter}
-use Rattle.simulation.specs.Rows.{setTexts}
-use Rattle.simulation.specs.Text.{textOf, toPrint, lineOf, setLineAt, withPhase}
-use Rattle.simulation.specs.Turns.{ComesIn, Comes, rank, weight, finished, isBeforeSets, Moved, LineBy, LineMoved, withLine, waitingFor, putAt}
+use Rattle.run_texts.specs.Rows.{setTexts}
+use Rattle.run_texts.specs.Text.{textOf, toPrint, lineOf, setLineAt, withPhase}
+use Rattle.run_texts.specs.Coming.{ComesIn, Comes, rank, weight, finished, isBeforeSets}
+use Rattle.simulation.specs.Turns.{Moved, LineBy, LineMoved, withLine, waitingFor, putAt}
 use Rattle.simulation.proofs.TurnLaws.{put-front, put-rest, put-size, quiet}
 
 -- in a phase after the sets' heading nothing is asked

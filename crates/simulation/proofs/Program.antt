@@ -13,11 +13,11 @@ use Rattle.run_phases.specs.declared.state.Phase.{Phase}
 use Rattle.run_phases.specs.declared.state.Simulation.{Simulation}
 use Rattle.run_phases.specs.declared.state.Turn.{Turn}
 use Rattle.run_phases.specs.declared.state.Wants.{Wants}
-use Rattle.simulation.specs.Text.{textOf, toPrint}
-use Rattle.simulation.specs.Turns.{ComesIn, Comes, ComesOn, weight, finished}
+use Rattle.run_texts.specs.Text.{textOf, toPrint}
+use Rattle.run_texts.specs.Coming.{ComesIn, Comes, ComesOn, weight, finished}
 use Rattle.simulation.specs.Calls.{Stopped, Called}
 use Rattle.simulation.specs.Program.{first, others, isEnd, leftAt, Calls, Prints, mostCalls, SlicesHeld, HeldByTypes, Answered, Whole}
-use Rattle.simulation.proofs.Printed.{Starts}
+use Rattle.run_texts.proofs.Printed.{Starts}
 
 opposite : {A : Type 0} {b : Bool} → b ≡ true → b ≡ false → A
 opposite p q = absurd (let z : _≡_ {A = ℕ} 0 1 = cc (sym p ∙ q) in omega arith)

@@ -38,9 +38,10 @@ use Rattle.run_phases.specs.declared.state.Simulation.{Simulation}
 use Rattle.run_phases.specs.declared.state.Turn.{Turn}
 use Rattle.run_phases.specs.declared.state.Wants.{Wants}
 use Rattle.run_phases.specs.Phases.{phaseFor, wantsFor}
-use Rattle.simulation.specs.Rows.{rowTexts, rowsWith}
-use Rattle.simulation.specs.Text.{textOf, toPrint, withPhase}
-use Rattle.simulation.specs.Turns.{ComesIn, Comes, rank, weight, isBeforeSets, Ended, Moved, withRows, waitingFor, putAt, SomeAsked}
+use Rattle.run_texts.specs.Rows.{rowTexts, rowsWith}
+use Rattle.run_texts.specs.Text.{textOf, toPrint, withPhase}
+use Rattle.run_texts.specs.Coming.{ComesIn, Comes, rank, weight, isBeforeSets}
+use Rattle.simulation.specs.Turns.{Ended, Moved, withRows, waitingFor, putAt, SomeAsked}
 use Rattle.simulation.proofs.LineLaws.{back-is}
 use Rattle.simulation.proofs.TurnLaws.{put-front, put-rest, put-size, with-split, with-none, quiet}
 

@@ -17,9 +17,10 @@ use Rattle.dispatch.proofs.Working.{run-on, rows-on}
 use Rattle.run_phases.specs.declared.state.Simulation.{Simulation}
 use Rattle.run_phases.specs.declared.state.Turn.{Turn}
 use Rattle.run_phases.specs.declared.state.Wants.{Wants}
-use Rattle.simulation.specs.Rows.{rowTexts, setTexts, rowsWith}
-use Rattle.simulation.specs.Text.{textOf, toPrint}
-use Rattle.simulation.specs.Turns.{Comes, weight, isBeforeSets, Ended, Moved, putAt}
+use Rattle.run_texts.specs.Rows.{rowTexts, setTexts, rowsWith}
+use Rattle.run_texts.specs.Text.{textOf, toPrint}
+use Rattle.run_texts.specs.Coming.{Comes, weight, isBeforeSets}
+use Rattle.simulation.specs.Turns.{Ended, Moved, putAt}
 
 -- ---- a text in a buffer
 

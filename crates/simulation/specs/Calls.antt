@@ -8,8 +8,8 @@ use Rattle.rules.specs.declared.run.Inputs.{Inputs}
 use Rattle.run_phases.specs.declared.state.Simulation.{Simulation}
 use Rattle.run_phases.specs.declared.state.Turn.{Turn}
 use Rattle.run_phases.specs.declared.state.Wants.{Wants}
-use Rattle.simulation.specs.Text.{toPrint}
-use Rattle.simulation.specs.Turns.{Comes, ComesOn, weight, finished, isBeforeSets}
+use Rattle.run_texts.specs.Text.{toPrint}
+use Rattle.run_texts.specs.Coming.{Comes, ComesOn, weight, finished, isBeforeSets}
 
 abbrev pub goesOn : Wants → Bool
 goesOn Wants.Further = true

@@ -1,6 +1,4 @@
 -- What a run still prints, and what a turn and a call of it owe.
-pub mod Rows
-pub mod Text
 pub mod Turns
 pub mod Calls
 pub mod Program

@@ -10,7 +10,7 @@ use Rattle.rules.specs.Chunks.{joined}
 use Rattle.run_phases.specs.declared.state.Simulation.{Simulation}
 use Rattle.run_phases.specs.declared.state.Turn.{Turn}
 use Rattle.run_phases.specs.declared.state.Wants.{Wants}
-use Rattle.simulation.specs.Turns.{weight, finished}
+use Rattle.run_texts.specs.Coming.{weight, finished}
 
 -- the chunk that a call is handed: the first of those left, and an empty one once the file has ended
 abbrev pub first : List (List ℕ) → List ℕ

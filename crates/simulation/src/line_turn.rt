@@ -4,7 +4,7 @@ ghost use Prim.Native.Nat.{_≤_};
 ghost use mathlib.Core.List.{[]};
 ghost use lib.ListN.{length};
 ghost use Rattle.rows.specs.Written.{TextPut};
-ghost use Rattle.simulation.specs.Text.{lineOf, setLineAt, withPhase};
+ghost use Rattle.run_texts.specs.Text.{lineOf, setLineAt, withPhase};
 ghost use Rattle.simulation.specs.Turns.{LineMoved};
 use course::state::set_states;
 use rows::run_lines::put_refused;

@@ -6,7 +6,7 @@ ghost use mathlib.Core.List.{List};
 ghost use lib.ListN.{length};
 ghost use Rattle.run_phases.specs.declared.state.Phase.{Phase};
 ghost use Rattle.run_phases.specs.declared.state.Wants.{Wants};
-ghost use Rattle.simulation.specs.Text.{withPhase};
+ghost use Rattle.run_texts.specs.Text.{withPhase};
 ghost use Rattle.simulation.specs.Turns.{Moved};
 use crate::line_turn::line_turn;
 use crate::line_turn::waiting;

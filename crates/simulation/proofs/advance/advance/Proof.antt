@@ -2,7 +2,7 @@
 use Prim.Native.Nat.{_+_, _*_}
 use mathlib.Core.Path.{_≡_, refl, sym, _∙_}
 use borrow.Author.Needs.{needs}
-use Rattle.simulation.specs.Turns.{weight}
+use Rattle.run_texts.specs.Coming.{weight}
 use Rattle.simulation.specs.Calls.{goesOn}
 use Rattle.simulation.proofs.CallLaws.{count, Going, going-start, going-on, turns-fall, called}
 use Rattle.simulation.proofs.advance.advance.Statement.{statement}

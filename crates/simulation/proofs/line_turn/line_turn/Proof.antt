@@ -4,7 +4,7 @@ use native.Mathlib.Omega.{arith}
 use denote.Ref.{now}
 use lib.ListN.{length, drop}
 use Rattle.rows.specs.Written.{TextPut}
-use Rattle.simulation.specs.Text.{lineOf}
+use Rattle.run_texts.specs.Text.{lineOf}
 use Rattle.simulation.proofs.LineLaws.{rest-is, line-room, line-moves, line-waits}
 use borrow.Author.Needs.{needs}
 use Rattle.simulation.proofs.line_turn.line_turn.Statement.{statement}

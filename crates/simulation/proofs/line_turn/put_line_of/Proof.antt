@@ -1,5 +1,5 @@
 -- `put_line_of` meets its contract. Assumes nothing.
-use Rattle.simulation.specs.Text.{lineOf}
+use Rattle.run_texts.specs.Text.{lineOf}
 use borrow.Author.Needs.{needs}
 use Rattle.simulation.proofs.line_turn.put_line_of.Statement.{statement}
 use Rattle.simulation.proofs.line_turn.put_line_of.Tie as tie

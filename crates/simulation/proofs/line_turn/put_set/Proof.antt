@@ -3,7 +3,7 @@ use native.Mathlib.Omega.{arith}
 use native.Mathlib.Numerals.{add-one}
 use borrow.Author.Tests.{le-ltb, lt-ltb}
 use Rattle.rules.specs.Modes.{stateAt}
-use Rattle.simulation.specs.Text.{setLineAt}
+use Rattle.run_texts.specs.Text.{setLineAt}
 use borrow.Author.Needs.{needs}
 use Rattle.simulation.proofs.line_turn.put_set.Statement.{statement}
 use Rattle.simulation.proofs.line_turn.put_set.Tie as tie

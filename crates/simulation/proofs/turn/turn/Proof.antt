@@ -1,7 +1,7 @@
 -- `turn` meets its contract. Assumes nothing.
 use mathlib.Core.Path.{refl, ap}
 use denote.Ref.{now}
-use Rattle.simulation.specs.Turns.{finished}
+use Rattle.run_texts.specs.Coming.{finished}
 use Rattle.simulation.proofs.PhaseTurns.{refusal-turn, heading-turn, finished-turn}
 use borrow.Author.Needs.{needs}
 use Rattle.simulation.proofs.turn.turn.Statement.{statement}

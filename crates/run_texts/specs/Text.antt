@@ -14,7 +14,7 @@ use Rattle.rows.specs.AnswerLine.{refusedLine}
 use Rattle.rows.specs.SetLine.{setLine}
 use Rattle.run_phases.specs.declared.state.Phase.{Phase}
 use Rattle.run_phases.specs.declared.state.Simulation.{Simulation}
-use Rattle.simulation.specs.Rows.{rowsWith, setTexts}
+use Rattle.run_texts.specs.Rows.{rowsWith, setTexts}
 
 -- what a run in this phase has yet to hand over, where the seconds that are left are handed these inputs; a run that broke off hands
 -- over no more of it

@@ -25,9 +25,9 @@ use Rattle.dispatch.specs.Working.{rowsOf, runAfter}
 use Rattle.course.proofs.Started.{started-run, started-coming}
 use Rattle.run_phases.specs.declared.state.Phase.{Phase}
 use Rattle.run_phases.specs.declared.state.Simulation.{Simulation}
-use Rattle.simulation.specs.Rows.{rowTexts, setTexts, rowsWith}
-use Rattle.simulation.specs.Text.{textOf, toPrint}
-use Rattle.simulation.specs.Turns.{ComesIn, Comes}
+use Rattle.run_texts.specs.Rows.{rowTexts, setTexts, rowsWith}
+use Rattle.run_texts.specs.Text.{textOf, toPrint}
+use Rattle.run_texts.specs.Coming.{ComesIn, Comes}
 use Rattle.run_phases.specs.Begin.{Refuses, Starting, BegunAs}
 
 -- ---- "A row holds until the next": the rows of the definition are those of the inputs held

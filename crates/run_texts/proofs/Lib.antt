@@ -1,0 +1,2 @@
+-- What a run that begins prints.
+pub mod Printed
