@@ -4,7 +4,7 @@
 Runs target/bin/test_second_cases (`rt check test_second_cases` builds it) on COUNT generated cases of one second, and compares each answer byte
 for byte with that of the independent reference program: the row's length or the refusal, the record handed back, the row; and the rest of
 the lent buffer with what was lent. Says how many were accepted, how many met each refusal, and how many held a NaN or an infinity, and
-fails where one of them never was.
+fails where one of them never was. The cases of tests/seconds have recorded answers, and are held against these.
 
 The program reads and prints numbers of 8 bytes, and this makes them of the reference's lines and back: a reader of text would have to be
 proved too.
@@ -90,6 +90,13 @@ def hold(commands, ours, theirs):
             fail('case %d (%s) is answered\n%s\nand not\n%s' % (at, commands[at - 1], our, their))
 
 
+def hold_recorded():
+    """The recorded cases, against the answers that are recorded with them."""
+    cases, answers = ([line.rstrip('\n') for line in open(os.path.join(ROOT, 'tests', 'seconds', name))] for name in ('cases', 'answers'))
+    hold(['line %d of tests/seconds/cases' % number for number in range(1, len(cases) + 1)], answered(cases), answers)
+    print('seconds: %d recorded cases, each answered as recorded' % len(cases))
+
+
 def main():
     if len(sys.argv) != 5 or not sys.argv[4].isdecimal():
         sys.exit(__doc__)
@@ -98,6 +105,7 @@ def main():
     os.chdir(ROOT)
     if not os.path.exists(PROGRAM):
         fail('%s is not there; `rt check test_second_cases` builds it' % PROGRAM)
+    hold_recorded()
     commands, cases = zip(*generated(generate, 'seconds', seeds, count))
     text = ''.join(case + '\n' for case in cases).encode()
     theirs = must([reference, 'batch', 'seconds'], input=text).decode().splitlines()
