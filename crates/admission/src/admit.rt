@@ -89,7 +89,7 @@ fn admitted_of(st: Station, run: Run, inputs: &[u32], most: usize) -> usize
 }
 
 // How many seconds a call is to work, and why no more.
-#[derive(Drop)]
+#[derive(Clone, Copy)]
 pub struct Judged {
     pub seconds: usize,
     pub ended: Ended,

@@ -1,2 +1,3 @@
+#![tactic(auto)]
 // The arguments that a program is given.
 pub mod seconds;

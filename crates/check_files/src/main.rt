@@ -1,3 +1,4 @@
+#![tactic(auto)]
 // check STATION SAMPLES: checks a station file and then a sample file before a run. Standard output has the answer alone;
 // standard error says to a clerk what stands in the files, or what is wrong and what would be right.
 mod end_words;

@@ -7,7 +7,7 @@ use exchange::action::{Action, Why, Word};
 use perform::{Files, no_files, perform};
 
 // What the machine ended with, and where it and the files then stood.
-#[derive(Drop)]
+#[derive(Clone, Copy)]
 pub(crate) struct Ended {
     pub(crate) word: Word,
     pub(crate) machine: Machine,

@@ -1,3 +1,4 @@
+#![tactic(auto)]
 // `check STATION SAMPLES` as decisions: whether both files are in order for a run. A machine by value from events to actions; it
 // reads and writes nothing itself.
 mod answer;

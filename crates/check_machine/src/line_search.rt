@@ -5,7 +5,7 @@ ghost use Rattle.std.specs.Prelude.{◌≤◌, length};
 const MOST_HELD: usize = 513;
 
 // The first bytes of the line, once the lines before it are passed.
-#[derive(Drop)]
+#[derive(Clone, Copy)]
 pub struct Sought {
     pub text: [u8; 513],
     pub len: usize,
@@ -15,7 +15,7 @@ pub struct Sought {
 }
 
 // Where a chunk is to be read on once these line ends are passed, and those that it has not.
-#[derive(Drop)]
+#[derive(Clone, Copy)]
 struct Passed {
     at: usize,
     left: u64,

@@ -9,7 +9,7 @@ use judging::state::{Judging, SAMPLES, judge_asks};
 use rules::answers::Refusal;
 
 // What was asked for last.
-#[derive(Drop)]
+#[derive(Clone, Copy)]
 pub enum Stage {
     // how many arguments there are
     Counting,
@@ -26,7 +26,7 @@ pub enum Stage {
 }
 
 // What was read so far.
-#[derive(Drop)]
+#[derive(Clone, Copy)]
 pub struct Held {
     pub judging: Judging,
     // the heading line and the refused line, for the message
@@ -34,7 +34,7 @@ pub struct Held {
     pub line: Sought,
 }
 
-#[derive(Drop)]
+#[derive(Clone, Copy)]
 pub struct Machine {
     pub stage: Stage,
     pub held: Held,

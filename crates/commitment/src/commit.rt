@@ -8,7 +8,7 @@ use rules::station::Station;
 use words::arithmetic::over_u32;
 
 // What steps 9 and 10 come to: the setpoint held, and the number of the configuration called.
-#[derive(Drop)]
+#[derive(Clone, Copy)]
 pub struct Committed {
     pub held: f64,
     pub call: usize,

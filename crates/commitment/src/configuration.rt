@@ -97,7 +97,7 @@ fn first_covering(
 }
 
 // A usable configuration's number and its capacity; 0 and 0 for none.
-#[derive(Drop)]
+#[derive(Clone, Copy)]
 pub(crate) struct Greatest {
     pub(crate) number: usize,
     pub(crate) most: u32,

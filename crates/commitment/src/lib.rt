@@ -1,3 +1,4 @@
+#![tactic(auto)]
 // Which sets the station asks for: the setpoint held, and the configuration called.
 pub mod commit;
 pub mod configuration;

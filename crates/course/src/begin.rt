@@ -17,7 +17,7 @@ use station::chunks::{StationBytes, station_of};
 use station::reader::no_station;
 
 // The verdict on both files and the seconds asked, and the course that they come to; where it is refused, that of no station.
-#[derive(Drop)]
+#[derive(Clone, Copy)]
 pub struct Begun {
     pub course: Course,
     pub verdict: Verdict,

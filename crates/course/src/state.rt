@@ -7,7 +7,7 @@ use rules::answers::Ended;
 use rules::run::{Run, SetState};
 use rules::station::Station;
 
-#[derive(Drop)]
+#[derive(Clone, Copy)]
 pub struct Course {
     pub station: Station,
     pub run: Run,
@@ -17,7 +17,7 @@ pub struct Course {
 }
 
 // What a call ended for.
-#[derive(Drop)]
+#[derive(Clone, Copy)]
 pub enum Halt {
     // it came nearer to the last second, and may be called again
     Further,
@@ -32,7 +32,7 @@ pub enum Halt {
 }
 
 // Where a call ends: the chunk is to be read on at `next`, and the rows of so many seconds stand in the lent numbers.
-#[derive(Drop)]
+#[derive(Clone, Copy)]
 pub struct Moved {
     pub course: Course,
     pub next: usize,

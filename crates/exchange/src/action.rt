@@ -2,7 +2,7 @@
 use rules::answers::Refusal;
 
 // Why there is no complete answer. A file is named by the place of its path among the arguments.
-#[derive(Drop)]
+#[derive(Clone, Copy)]
 pub enum Why {
     // the program was called with other arguments than it has
     WrongCall,
@@ -21,7 +21,7 @@ pub enum Why {
 }
 
 // What a program ends with.
-#[derive(Drop)]
+#[derive(Clone, Copy)]
 pub enum Word {
     // standard output has the whole answer
     Complete,
@@ -34,7 +34,7 @@ pub enum Word {
 // The end of every buffer, for a part that goes as far as the buffer does.
 pub const BUFFER_END: usize = usize::MAX;
 
-#[derive(Drop)]
+#[derive(Clone, Copy)]
 pub enum Action {
     // how many arguments there are, the program's own name among them
     Count,

@@ -1,5 +1,5 @@
 // What came of an action.
-#[derive(Drop)]
+#[derive(Clone, Copy)]
 pub enum Event {
     // it was done
     Done,

@@ -5,7 +5,7 @@ use plain_words::shown::{show, show_bare};
 use plain_words::texts::say;
 
 // A column after the time's.
-#[derive(Drop)]
+#[derive(Clone, Copy)]
 enum Column {
     Load,
     Solar,

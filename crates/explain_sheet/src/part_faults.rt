@@ -9,7 +9,7 @@ use sheet::numbers::{CellValue, cell_under};
 use sheet_headings::headings::name_of;
 
 // What can be wrong with a heading, and with a cell.
-#[derive(Drop)]
+#[derive(Clone, Copy)]
 pub enum PartFault {
     Blank,
     Unknown,

@@ -6,7 +6,7 @@ use station_fields::field::Field;
 use station_fields::genset::{PAIR, SET};
 
 // The numbers that stand together in a file.
-#[derive(Drop)]
+#[derive(Clone, Copy)]
 pub(crate) enum Body {
     // of a station with so many sets
     Control(usize),

@@ -3,7 +3,7 @@ use plain_words::shown::show_path;
 use plain_words::texts::say;
 
 // Who speaks: each message begins with the program's name.
-#[derive(Drop)]
+#[derive(Clone, Copy)]
 pub enum Program {
     Check,
     Run,

@@ -9,7 +9,7 @@ use rules::station::Battery;
 use words::arithmetic::{over, over_u32, smaller};
 
 // A second's watts, and the store after it.
-#[derive(Drop)]
+#[derive(Clone, Copy)]
 pub(crate) struct Flows {
     pub(crate) watts: Watts,
     pub(crate) store: u64,

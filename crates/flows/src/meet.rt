@@ -7,7 +7,7 @@ use rules::run::{Inputs, Watts};
 use rules::station::Station;
 
 // What steps 3 to 7 come to: a second's watts, the store after it, and the shed amount decided.
-#[derive(Drop)]
+#[derive(Clone, Copy)]
 pub struct Met {
     pub watts: Watts,
     pub store: u64,

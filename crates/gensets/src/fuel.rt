@@ -9,7 +9,7 @@ use rules::station::GenSet;
 use station_fields::ranges;
 
 // What a set burns at a power.
-#[derive(Drop)]
+#[derive(Clone, Copy)]
 pub enum Rate {
     // mL/h, rounded down
     PerHour(u64),

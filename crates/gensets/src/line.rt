@@ -14,7 +14,7 @@ const MOST_START: u64 = 15_000_000_000;
 const MOST_AT: u64 = 20_000_000_000;
 
 // The line between two points of a set's curve.
-#[derive(Drop)]
+#[derive(Clone, Copy)]
 pub struct Line {
     // the power x 1000 where it begins
     pub start: u64,

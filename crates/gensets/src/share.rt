@@ -11,7 +11,7 @@ use words::masks::next_set;
 const MOST_CAPACITY: u64 = 80_000_000;
 
 // Whether a diesel power could be shared.
-#[derive(Drop)]
+#[derive(Clone, Copy)]
 pub enum Sharing {
     // the sets take all of it
     Shared,
@@ -22,7 +22,7 @@ pub enum Sharing {
 }
 
 // Each place's watts, beside whether the power could be shared; all 0 where not.
-#[derive(Drop)]
+#[derive(Clone, Copy)]
 pub struct ShareAnswer {
     pub sharing: Sharing,
     pub watts: [u32; 8],

@@ -13,7 +13,7 @@ use sample_rows::reader::{SampleReader, kept};
 use words::arithmetic::{lesser, wide};
 
 // So many seconds were told; the chunk is to be read on at `next`.
-#[derive(Drop)]
+#[derive(Clone, Copy)]
 pub struct Filled {
     pub source: InputSource,
     pub next: usize,

@@ -33,7 +33,7 @@ fn fill_state_at(
 }
 
 // Where usual rows stand: the columns, the lines counted, the row in force, and the next one, which is the last that was read.
-#[derive(Drop)]
+#[derive(Clone, Copy)]
 struct UsualRows {
     columns: Columns,
     lines: u64,

@@ -1,2 +1,3 @@
+#![tactic(auto)]
 // What a run is handed its inputs from.
 pub mod source;

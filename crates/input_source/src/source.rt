@@ -10,7 +10,7 @@ use sample_rows::reader::{Ending, SampleReader, end, reader};
 use sheet_stages::stage::line_refused;
 
 // The row in force, and the rows after it.
-#[derive(Drop)]
+#[derive(Clone, Copy)]
 pub struct InputSource {
     pub reader: SampleReader,
     pub now: Sample,

@@ -14,7 +14,7 @@ pub const STATION: usize = 1;
 pub const SAMPLES: usize = 2;
 
 // What was asked for last.
-#[derive(Drop)]
+#[derive(Clone, Copy)]
 pub enum JudgeStage {
     OpenStation,
     ReadStation,
@@ -29,7 +29,7 @@ pub enum JudgeStage {
 }
 
 // What was read so far.
-#[derive(Drop)]
+#[derive(Clone, Copy)]
 pub struct Held {
     // whether the sample file is to be read a second time
     pub twice: bool,
@@ -41,7 +41,7 @@ pub struct Held {
     pub tally: Tally,
 }
 
-#[derive(Drop)]
+#[derive(Clone, Copy)]
 pub struct Judging {
     pub stage: JudgeStage,
     pub held: Held,

@@ -1,1 +1,2 @@
+#![tactic(auto)]
 // Nothing to run: this crate has laws of the definitions in `rules`, in proofs/.

@@ -1,3 +1,4 @@
+#![tactic(auto)]
 // measure_seconds each|many|rows STATION SECONDS: works the seconds of a station from its start with inputs that follow from the
 // second's number, one call for each second or one for each batch, and says what they came to, or writes their rows. It is what
 // bench/second measures.
@@ -23,7 +24,7 @@ use station::reader::read_station;
 use words::refusals::number_and_place;
 
 // How the seconds are worked.
-#[derive(Drop)]
+#[derive(Clone, Copy)]
 enum Way {
     Each,
     Many,
@@ -31,7 +32,7 @@ enum Way {
 }
 
 // The way that a word names, if any.
-#[derive(Drop)]
+#[derive(Clone, Copy)]
 enum Named {
     As(Way),
     Unknown,

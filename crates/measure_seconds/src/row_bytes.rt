@@ -7,7 +7,7 @@ const MODULUS: u64 = 65_521;
 // So many bytes are summed before a remainder is taken: neither sum wraps.
 const MOST_SUMMED: usize = 65_536;
 
-#[derive(Drop)]
+#[derive(Clone, Copy)]
 pub(crate) struct RowBytes {
     pub(crate) count: u64,
     // the bytes' sum

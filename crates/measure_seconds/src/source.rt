@@ -13,7 +13,7 @@ const STATION: usize = 2;
 const STATION_PATH: usize = 8192;
 
 // How much of a buffer was filled from the file, and whether that failed, which a message said.
-#[derive(Drop)]
+#[derive(Clone, Copy)]
 pub(crate) struct Filled {
     pub(crate) size: usize,
     pub(crate) failed: bool,

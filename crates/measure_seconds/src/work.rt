@@ -16,7 +16,7 @@ use steady::seconds::seconds;
 const BATCH: u32 = 384;
 
 // The record, the seconds and the rows' bytes so far, and whether a refusal ended them.
-#[derive(Drop)]
+#[derive(Clone, Copy)]
 pub(crate) struct Tally {
     pub(crate) run: Run,
     pub(crate) seconds: u64,

@@ -1,3 +1,4 @@
+#![tactic(auto)]
 // The sets' modes.
 pub mod masks;
 pub mod mode;

@@ -7,7 +7,7 @@ use commitment::configuration::since_after;
 use rules::run::{Held, Row, Run, SetState, Totals, Watts};
 
 // The record without its arrays.
-#[derive(Drop)]
+#[derive(Clone, Copy)]
 pub struct Moment {
     pub done: u32,
     pub since: u32,

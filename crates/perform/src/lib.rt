@@ -1,3 +1,4 @@
+#![tactic(auto)]
 // What a program asks for, performed, and what came of it. It is the same for every program. Its contract has the shape of each answer;
 // that the bytes are the files', and reach standard output, no contract can say: what is taken on trust stands in exchange/specs/World.antt.
 ghost use Rattle.std.specs.Prelude.{◌≡◌, ◌≤◌, min, negsuc, length, replicate};
@@ -14,13 +15,13 @@ const PLACES: usize = 8;
 const SLOT: usize = 4096;
 
 // Of each argument the descriptor of its file, -1 where none is open, and how many bytes of its slot its path has.
-#[derive(Drop)]
+#[derive(Clone, Copy)]
 pub struct Files {
     descriptors: [i32; 8],
     ends: [usize; 8],
 }
 
-#[derive(Drop)]
+#[derive(Clone, Copy)]
 pub struct Performed {
     pub files: Files,
     pub event: Event,
@@ -89,7 +90,7 @@ fn argument(place: usize, buf: &mut [u8]) -> Event
     Event::Failed
 }
 
-#[derive(Drop)]
+#[derive(Clone, Copy)]
 struct Opened {
     fd: i32,
     end: usize,

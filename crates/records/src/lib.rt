@@ -1,3 +1,4 @@
+#![tactic(auto)]
 // The run's record: how a run starts, and which records are possible.
 mod decided;
 pub mod possible;

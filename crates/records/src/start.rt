@@ -13,7 +13,7 @@ use rules::station::Station;
 use station_record::record::some_file_gives;
 
 // The verdict on a station record, and the record that its run starts with; where it is refused, the record of zeros.
-#[derive(Drop)]
+#[derive(Clone, Copy)]
 pub struct Started {
     pub verdict: Verdict,
     pub run: Run,

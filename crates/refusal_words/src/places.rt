@@ -6,7 +6,7 @@ use plain_words::numbers::number;
 use plain_words::texts::say;
 use rules::answers::Refusal;
 
-#[derive(Drop)]
+#[derive(Clone, Copy)]
 pub enum Place {
     // the station file, and nothing of it that is counted
     StationFile,

@@ -1,2 +1,3 @@
+#![tactic(auto)]
 // Rows of numbers as text.
 pub mod put_rows;

@@ -14,14 +14,14 @@ const MOST_BYTES: usize = 273;
 const CHANGING: usize = 8;
 
 // How many rows were put, and how many bytes they have.
-#[derive(Drop)]
+#[derive(Clone, Copy)]
 pub struct RowsPut {
     pub count: usize,
     pub bytes: usize,
 }
 
 // Where a row's line ends, and where the text of its last five numbers begins.
-#[derive(Drop)]
+#[derive(Clone, Copy)]
 struct LinePut {
     kept: usize,
     end: usize,

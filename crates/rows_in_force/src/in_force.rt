@@ -9,7 +9,7 @@ use sheet_stages::stage::{Found, Stage};
 use words::arithmetic::{lesser, wide};
 
 // What is known of the rows after the one in force.
-#[derive(Drop)]
+#[derive(Clone, Copy)]
 pub enum Ahead {
     // the next one has to be read before a second can be worked
     Unread,
@@ -26,14 +26,14 @@ pub enum Ahead {
 }
 
 // What the lines so far came to, and how many bytes of a line have begun.
-#[derive(Drop)]
+#[derive(Clone, Copy)]
 pub struct Begun {
     pub stage: Stage,
     pub len: usize,
 }
 
 // So many seconds were told: the row in force and the rows after it; the chunk is to be read on at `next`.
-#[derive(Drop)]
+#[derive(Clone, Copy)]
 pub struct FillState {
     pub begun: Begun,
     pub now: Sample,
@@ -43,7 +43,7 @@ pub struct FillState {
 }
 
 // The row in force at a second, of the rows that are known; `unread` where the next one has to be read to tell.
-#[derive(Drop)]
+#[derive(Clone, Copy)]
 struct InForce {
     now: Sample,
     ahead: Ahead,
@@ -51,7 +51,7 @@ struct InForce {
 }
 
 // The row in force at a second; `told` is false where the chunk ends before that is known.
-#[derive(Drop)]
+#[derive(Clone, Copy)]
 pub struct Reached {
     pub begun: Begun,
     pub now: Sample,

@@ -35,11 +35,13 @@ parts-some c (x ∷ s) = go (eqb x c)
 
 joined-front : (c x : ℕ) (ps : List (List ℕ)) → Some ps → joined c (in_front x ps) ≡ x ∷ joined c ps
 unfolding joined
+joined-front c x [] h = elim h [ ]
 joined-front c x (p ∷ []) some = refl
 joined-front c x (p ∷ q ∷ r) some = refl
 
 joined-blank : (c : ℕ) (ps : List (List ℕ)) → Some ps → joined c ([] ∷ ps) ≡ c ∷ joined c ps
 unfolding joined
+joined-blank c [] h = elim h [ ]
 joined-blank c (p ∷ ps) some = refl
 
 pub parts-joined : (c : ℕ) (s : List ℕ) → joined c (parts c s) ≡ s

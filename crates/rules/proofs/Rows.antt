@@ -1,6 +1,6 @@
 -- Document 01, "A later row whose time is not above the last accepted one is skipped": the rows of an accepted sheet begin at
 -- second 0, and each is later than the one before it that was accepted. Assumes nothing.
-use Prim.Native.Nat.{ℕ, ◌<◌}
+use Prim.Native.Nat.{ℕ, suc, ◌<◌}
 use mathlib.Core.Path.{◌≡◌, refl, subst}
 use mathlib.Core.Bool.{Bool, true, false}
 use mathlib.Core.List.{List, [], ◌∷◌, map}
@@ -31,7 +31,7 @@ later-rise sheet columns line last (l ∷ ls) rows h =
     let a = bound (row_values sheet columns line l) _ rows h in
     let b = bound (later_rows sheet columns _ _ ls) _ rows a.2 in
     subst (Rising last) (same-value _ rows b.2)
-    (taken (ltb last (time_in a.0)) last a.0 b.0 refl (later-rise sheet columns _ _ ls b.0 b.1))
+    (taken (ltb last (time_in a.0)) last a.0 b.0 refl (later-rise sheet columns (suc line) _ ls b.0 b.1))
 
 -- ---- of the sample file
 

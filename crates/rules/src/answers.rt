@@ -2,7 +2,7 @@
 
 // A fault that document 01 numbers. Those that it gives a place carry it: an entry, a set, a configuration or a line,
 // counted from 1, and 0 where a call refuses its own numbers and no file's.
-#[derive(Drop)]
+#[derive(Clone, Copy)]
 pub enum Refusal {
     StationSize,
     ContentsEntry(u32),
@@ -31,21 +31,21 @@ pub enum Refusal {
 }
 
 // Whether a file is good.
-#[derive(Drop)]
+#[derive(Clone, Copy)]
 pub enum Verdict {
     Accepted,
     Refused(Refusal),
 }
 
 // A number that an argument or the sizing screen gives.
-#[derive(Drop)]
+#[derive(Clone, Copy)]
 pub enum Amount {
     Value(u64),
     Refused(Refusal),
 }
 
 // What a second answers: its row's length with the LF, in bytes.
-#[derive(Drop)]
+#[derive(Clone, Copy)]
 pub enum Outcome {
     Row(usize),
     Refused(Refusal),
@@ -53,7 +53,7 @@ pub enum Outcome {
 
 // Why a call of many seconds worked no more of them. None of these is a refusal of document 01: whoever wants the number of a second
 // that the rules refuse asks for that second alone.
-#[derive(Drop)]
+#[derive(Clone, Copy)]
 pub enum Ended {
     AllWorked,
     // the rows lent have no place for the next one

@@ -2,7 +2,7 @@
 use crate::answers::{Ended, Outcome};
 
 // A set's mode, with the seconds that it still has.
-#[derive(Drop)]
+#[derive(Clone, Copy)]
 pub enum Mode {
     Off,
     Warming(u32),
@@ -11,7 +11,7 @@ pub enum Mode {
     Service(u32),
 }
 
-#[derive(Drop)]
+#[derive(Clone, Copy)]
 pub struct SetState {
     pub mode: Mode,
     // run seconds
@@ -27,14 +27,14 @@ pub struct SetState {
 }
 
 // Until the first second there is no held setpoint.
-#[derive(Drop)]
+#[derive(Clone, Copy)]
 pub enum Held {
     Absent,
     At(f64),
 }
 
 // The filter's two weights and its held number.
-#[derive(Drop)]
+#[derive(Clone, Copy)]
 pub struct Filter {
     pub oldweight: f64,
     pub newweight: f64,
@@ -42,7 +42,7 @@ pub struct Filter {
 }
 
 // A second's watts: the solar offered, and the row's eight watt columns.
-#[derive(Drop)]
+#[derive(Clone, Copy)]
 pub struct Watts {
     pub offered: u32,
     pub load: u32,
@@ -56,7 +56,7 @@ pub struct Watts {
 }
 
 // The station totals: the same, summed over the seconds done, in Ws.
-#[derive(Drop)]
+#[derive(Clone, Copy)]
 pub struct Totals {
     pub offered: u64,
     pub load: u64,
@@ -69,7 +69,7 @@ pub struct Totals {
     pub unserved: u64,
 }
 
-#[derive(Drop)]
+#[derive(Clone, Copy)]
 pub struct Run {
     // seconds done
     pub done: u32,
@@ -87,7 +87,7 @@ pub struct Run {
 }
 
 // What a second is handed: load, solar offered and sheddable load, in W.
-#[derive(Drop)]
+#[derive(Clone, Copy)]
 pub struct Inputs {
     pub load: u32,
     pub solar: u32,
@@ -95,7 +95,7 @@ pub struct Inputs {
 }
 
 // A row's numbers.
-#[derive(Drop)]
+#[derive(Clone, Copy)]
 pub struct Row {
     pub second: u32,
     pub watts: Watts,
@@ -110,21 +110,21 @@ pub struct Row {
 }
 
 // An accepted second: the record after it and its row.
-#[derive(Drop)]
+#[derive(Clone, Copy)]
 pub struct Step {
     pub run: Run,
     pub row: Row,
 }
 
 // A call's answer with the record that it hands back.
-#[derive(Drop)]
+#[derive(Clone, Copy)]
 pub struct Handed {
     pub answer: Outcome,
     pub run: Run,
 }
 
 // What a call of many seconds answers: the record after those worked, how many they are, and why they are no more.
-#[derive(Drop)]
+#[derive(Clone, Copy)]
 pub struct Worked {
     pub run: Run,
     pub seconds: usize,

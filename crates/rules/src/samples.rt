@@ -1,5 +1,5 @@
 // A row of the sample file, its powers in W.
-#[derive(Drop)]
+#[derive(Clone, Copy)]
 pub struct Sample {
     pub at: u32,
     pub load: u32,

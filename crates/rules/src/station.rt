@@ -1,6 +1,6 @@
 // The station's record: what a station file gives. Whatever the file has not is zero.
 
-#[derive(Drop)]
+#[derive(Clone, Copy)]
 pub struct Control {
     // spinning reserve, in W
     pub spinning: u32,
@@ -21,7 +21,7 @@ pub struct Control {
     pub online: u32,
 }
 
-#[derive(Drop)]
+#[derive(Clone, Copy)]
 pub struct Battery {
     // rating, in W
     pub power: u32,
@@ -34,7 +34,7 @@ pub struct Battery {
 }
 
 // A genset ("set").
-#[derive(Drop)]
+#[derive(Clone, Copy)]
 pub struct GenSet {
     // in W
     pub rating: u32,
@@ -53,7 +53,7 @@ pub struct GenSet {
     pub rates: [u32; 5],
 }
 
-#[derive(Drop)]
+#[derive(Clone, Copy)]
 pub struct Station {
     pub control: Control,
     pub battery: Battery,

@@ -1,3 +1,4 @@
+#![tactic(auto)]
 // run STATION SAMPLES SECONDS: works a station's seconds. Standard output has the run's bytes alone; standard error has what else there
 // is to say.
 fn main() {

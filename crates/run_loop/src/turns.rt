@@ -7,7 +7,7 @@ use run_machine::next::{begin, next};
 use run_machine::state::{Machine, asked};
 
 // What the machine ended with, and where it and the files then stood.
-#[derive(Drop)]
+#[derive(Clone, Copy)]
 pub(crate) struct Ended {
     pub(crate) word: Word,
     pub(crate) machine: Machine,

@@ -5,7 +5,7 @@ use course::state::{Course, seconds_to_work, seconds_worked};
 use rules::answers::Refusal;
 
 // What is to be handed over next.
-#[derive(Drop)]
+#[derive(Clone, Copy)]
 pub enum Phase {
     // a refusal's line, and nothing else
     Refusal(Refusal),
@@ -22,14 +22,14 @@ pub enum Phase {
     Broken,
 }
 
-#[derive(Drop)]
+#[derive(Clone, Copy)]
 pub struct Simulation {
     pub phase: Phase,
     pub course: Course,
 }
 
 // What a call ended for.
-#[derive(Drop)]
+#[derive(Clone, Copy)]
 pub enum Wants {
     // inside a call alone: it goes on
     Further,
@@ -42,7 +42,7 @@ pub enum Wants {
 }
 
 // Where a call stands: the chunk is to be read on at `next`, and `written` bytes of the lent buffer are to be written out.
-#[derive(Drop)]
+#[derive(Clone, Copy)]
 pub struct Turn {
     pub simulation: Simulation,
     pub next: usize,

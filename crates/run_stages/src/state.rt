@@ -15,7 +15,7 @@ const SECONDS: usize = 3;
 const TOLD: usize = 4;
 
 // What was asked for last.
-#[derive(Drop)]
+#[derive(Clone, Copy)]
 pub enum Stage {
     Counting,
     // whether bin/run called
@@ -32,7 +32,7 @@ pub enum Stage {
     Stop(Word),
 }
 
-#[derive(Drop)]
+#[derive(Clone, Copy)]
 pub struct Held {
     pub judging: Judging,
     // of the second pass
@@ -49,7 +49,7 @@ pub struct Held {
     pub working: bool,
 }
 
-#[derive(Drop)]
+#[derive(Clone, Copy)]
 pub struct Machine {
     pub stage: Stage,
     pub held: Held,

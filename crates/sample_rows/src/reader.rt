@@ -17,7 +17,7 @@ use usual_rows::usual::{Usual, usual_row};
 use words::arithmetic::lesser;
 
 // The bytes of the line that has begun, and what the lines before it came to.
-#[derive(Drop)]
+#[derive(Clone, Copy)]
 pub struct SampleReader {
     pub line: [u8; 512],
     pub len: usize,
@@ -25,7 +25,7 @@ pub struct SampleReader {
 }
 
 // A row, or nothing where the chunk has no further one; the chunk is to be read on at `next`.
-#[derive(Drop)]
+#[derive(Clone, Copy)]
 pub struct Pulled {
     pub reader: SampleReader,
     pub next: usize,
@@ -33,7 +33,7 @@ pub struct Pulled {
 }
 
 // What a line of a chunk gave, and the place after its LF; `ended` is false where the chunk has none.
-#[derive(Drop)]
+#[derive(Clone, Copy)]
 struct LineTurn {
     stage: Stage,
     found: Found,
@@ -42,7 +42,7 @@ struct LineTurn {
 }
 
 // The next row of the lines that end in a chunk; the chunk is to be read on at `next`, where `len` bytes of a line have begun.
-#[derive(Drop)]
+#[derive(Clone, Copy)]
 pub struct NextRow {
     pub stage: Stage,
     pub len: usize,
@@ -51,7 +51,7 @@ pub struct NextRow {
 }
 
 // What the end of the file gives: the row of a last line without LF, none, or the refusal.
-#[derive(Drop)]
+#[derive(Clone, Copy)]
 pub enum Ending {
     LastRow(Sample),
     NoRow,
@@ -59,7 +59,7 @@ pub enum Ending {
 }
 
 // A line with more bytes after those that it had; `fits` is false where it is longer than a line may be.
-#[derive(Drop)]
+#[derive(Clone, Copy)]
 struct Extended {
     line: [u8; 512],
     len: usize,

@@ -10,19 +10,19 @@ use sheet_stages::stage::{Found, Stage, line_refused, next_line};
 use usual_rows::usual::{Usual, usual_later};
 
 // How many rows were accepted, and the time of the last.
-#[derive(Drop)]
+#[derive(Clone, Copy)]
 pub struct Span {
     pub rows: u64,
     pub last: u32,
 }
 
-#[derive(Drop)]
+#[derive(Clone, Copy)]
 pub struct SampleCheck {
     pub(crate) reader: SampleReader,
     pub(crate) span: Span,
 }
 
-#[derive(Drop)]
+#[derive(Clone, Copy)]
 pub enum Checked {
     Accepted(Span),
     Refused(Refusal),
@@ -58,7 +58,7 @@ pub fn check() -> SampleCheck
 }
 
 // What the lines came to once usual rows were read, those rows counted, and the place after them.
-#[derive(Drop)]
+#[derive(Clone, Copy)]
 struct RowsCounted {
     stage: Stage,
     span: Span,

@@ -9,7 +9,7 @@ use rules::limits::{MOST_DECIMALS, MOST_KW_DIGITS, MOST_POWER, MOST_TIME, MOST_T
 use words::arithmetic::byte_u32;
 
 // What a cell comes to. `specs/Cells.antt` gives document 01's number for each case.
-#[derive(Drop)]
+#[derive(Clone, Copy)]
 pub enum CellValue {
     Value(u32),
     Malformed,
@@ -17,7 +17,7 @@ pub enum CellValue {
 }
 
 // What a text comes to as a number, before its limit is asked. `specs/Digits.antt` says when there is one.
-#[derive(Drop)]
+#[derive(Clone, Copy)]
 enum Digits {
     Number(u32),
     Malformed,

@@ -10,14 +10,14 @@ use rules::samples::Sample;
 use sheet_headings::cells::cell_at;
 use sheet_headings::headings::Columns;
 
-#[derive(Drop)]
+#[derive(Clone, Copy)]
 pub enum RowRead {
     Values(Sample),
     Refused(Refusal),
 }
 
 // The values of the columns after the time's, in the file's order.
-#[derive(Drop)]
+#[derive(Clone, Copy)]
 pub struct Powers {
     pub second: u32,
     pub third: u32,

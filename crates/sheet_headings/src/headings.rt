@@ -10,14 +10,14 @@ use rules::answers::Refusal;
 use rules::limits::MOST_LINE;
 
 // Which name each column after the time's has, by its place among the names: 1 LoadP, 2 PvAvailP, 3 ShedLoadP.
-#[derive(Drop)]
+#[derive(Clone, Copy)]
 pub struct Columns {
     pub second: u8,
     pub third: u8,
     pub fourth: u8,
 }
 
-#[derive(Drop)]
+#[derive(Clone, Copy)]
 pub enum Headed {
     Found(Columns),
     Refused(Refusal),

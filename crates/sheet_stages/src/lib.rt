@@ -1,2 +1,3 @@
+#![tactic(auto)]
 // One line of the sample file after another: what the lines so far came to.
 pub mod stage;

@@ -14,7 +14,7 @@ use sheet_headings::headings::{Columns, Headed, heading_line};
 
 // The heading line is awaited; the first row; a later row, with the columns, the time of the last accepted row, and how many
 // lines there were; or a line was refused.
-#[derive(Drop)]
+#[derive(Clone, Copy)]
 pub enum Stage {
     Heading,
     FirstRow(Columns),
@@ -23,13 +23,13 @@ pub enum Stage {
 }
 
 // The row that a line gave.
-#[derive(Drop)]
+#[derive(Clone, Copy)]
 pub enum Found {
     Row(Sample),
     Nothing,
 }
 
-#[derive(Drop)]
+#[derive(Clone, Copy)]
 pub struct Turn {
     pub stage: Stage,
     pub found: Found,

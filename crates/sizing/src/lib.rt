@@ -1,3 +1,4 @@
+#![tactic(auto)]
 // The calls of the C sizing screen: plain numbers and byte slices in, an answer by value out. `include/sizing.h` declares them.
 ghost use Rattle.std.specs.Prelude.{◌≡◌, ℕ};
 ghost use Rattle.rules.specs.Answers.{refusal_of, verdict_of, amount_of};
@@ -14,7 +15,7 @@ use words::refusals::number_and_place;
 
 // `number` is 0 where `value` is the answer; else it is document 01's refusal, with its `place`.
 #[repr(C)]
-#[derive(Drop)]
+#[derive(Clone, Copy)]
 pub struct SizingAnswer {
     pub number: u64,
     pub place: u64,

@@ -14,7 +14,7 @@ use words::arithmetic::lesser;
 const MOST_HELD: usize = layout::MOST_FILE + 1;
 
 // The bytes that have arrived, up to one more than a station file may have.
-#[derive(Drop)]
+#[derive(Clone, Copy)]
 pub struct StationBytes {
     pub bytes: [u8; MOST_HELD],
     pub len: usize,

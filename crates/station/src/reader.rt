@@ -12,7 +12,7 @@ use station_fields::ranges;
 use station_record::values::values_right;
 
 // The verdict on a file, and the record that it gives; where it is refused, the record of zeros.
-#[derive(Drop)]
+#[derive(Clone, Copy)]
 pub struct Reading {
     pub verdict: Verdict,
     pub station: Station,

@@ -3,7 +3,7 @@
 // How many bytes words and units have, filled up with spaces.
 pub const WORDS: usize = 26;
 
-#[derive(Drop)]
+#[derive(Clone, Copy)]
 pub struct Field {
     // in bytes, from the start of its body
     pub offset: usize,

@@ -2,7 +2,7 @@
 // A later edition with other sets changes their kind and size here.
 
 // A part by its entry in the table of contents: its kind, the counts that it may have, and the bytes of one body.
-#[derive(Drop)]
+#[derive(Clone, Copy)]
 pub struct Part {
     pub kind: u64,
     pub least: u64,

@@ -20,7 +20,7 @@ use rules::station::Station;
 use set_moves::commands::command_all;
 
 // The record after some seconds but for the decided amounts, and how many they are.
-#[derive(Drop)]
+#[derive(Clone, Copy)]
 pub(crate) struct AfterSeconds {
     pub(crate) moment: Moment,
     pub(crate) states: [SetState; 8],

@@ -16,7 +16,7 @@ use steps::step::commit_at;
 
 // What stays the same until the next event: the masks of the sets On and of those called, the capacity and the floor load of the sets
 // On, the sets that are due or in Service, and all states as they were.
-#[derive(Drop)]
+#[derive(Clone, Copy)]
 pub(crate) struct Steady {
     pub(crate) on: u32,
     pub(crate) called: u32,
@@ -27,14 +27,14 @@ pub(crate) struct Steady {
 }
 
 // Where the steady seconds stand: the record but for its arrays, and how many they are.
-#[derive(Drop)]
+#[derive(Clone, Copy)]
 pub(crate) struct Standing {
     pub(crate) moment: Moment,
     pub(crate) ran: usize,
 }
 
 // What a second comes to beside the arrays.
-#[derive(Drop)]
+#[derive(Clone, Copy)]
 pub(crate) struct AfterSecond {
     pub(crate) moment: Moment,
     pub(crate) row: Row,

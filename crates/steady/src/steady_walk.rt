@@ -15,7 +15,7 @@ use rules::limits::{ROW_COLUMNS, SECOND_INPUTS};
 use rules::station::Station;
 
 // Where a walk begins.
-#[derive(Drop)]
+#[derive(Clone, Copy)]
 pub(crate) struct Stretch {
     pub(crate) steady: Steady,
     pub(crate) moment: Moment,

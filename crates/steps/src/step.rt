@@ -17,7 +17,7 @@ use set_moves::commands::command_all;
 use set_moves::counts::count_all;
 
 // What the steps come to: the record after them but for the decided amounts, and the row.
-#[derive(Drop)]
+#[derive(Clone, Copy)]
 pub struct Stepped {
     pub moment: Moment,
     pub states: [SetState; 8],

@@ -1,3 +1,4 @@
+#![tactic(auto)]
 // A count and a checksum of the bytes of a pass: where those of two passes differ, the file changed between them.
 ghost use Rattle.std.specs.Prelude.{◌≡◌, ◌+◌, ◌*◌, ◌<◌, ◌≤◌, length, drop, slice_index};
 ghost use Rattle.tally.specs.Tally.{no_bytes, worth, at_word_end, with_byte, tallied_of, same_tally, WordTallied, WordsTallied};
@@ -7,7 +8,7 @@ use words::arithmetic::byte_u64;
 
 // How many bytes, the sum of their words of four bytes, and the sum of those sums after each word, which tells bytes and words
 // that changed places.
-#[derive(Drop)]
+#[derive(Clone, Copy)]
 pub struct Tally {
     pub count: u64,
     pub sum: u64,
@@ -15,7 +16,7 @@ pub struct Tally {
 }
 
 // The tally up to a place of a chunk.
-#[derive(Drop)]
+#[derive(Clone, Copy)]
 struct TalliedTo {
     tally: Tally,
     next: usize,

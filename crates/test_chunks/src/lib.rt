@@ -1,3 +1,4 @@
+#![tactic(auto)]
 // The streamed check and the streamed reader at any chunk size, called from C by the tests. No answer depends on the size.
 ghost use Rattle.std.specs.Prelude.{◌≡◌, ◌≤◌, ◌<◌, [], length};
 ghost use Rattle.sheet_stages.specs.ToCome.{placed, RowsRead, file_rows, row_first, all_read};
@@ -15,7 +16,7 @@ use words::refusals::number_and_place;
 
 // `number` is 0 where the file is accepted; then `rows` and `last` are its span.
 #[repr(C)]
-#[derive(Drop)]
+#[derive(Clone, Copy)]
 pub struct ChunkedAnswer {
     pub number: u64,
     pub place: u64,
@@ -25,7 +26,7 @@ pub struct ChunkedAnswer {
 
 // `found` is 1, or 0 where there is no such row.
 #[repr(C)]
-#[derive(Drop)]
+#[derive(Clone, Copy)]
 pub struct ChunkedRow {
     pub found: u64,
     pub at: u64,
@@ -115,7 +116,7 @@ fn row_answer(found: Found) -> ChunkedRow
 }
 
 // How many rows come before the one that is asked for, or that row.
-#[derive(Drop)]
+#[derive(Clone, Copy)]
 enum Sought {
     After(u64),
     Came(Sample),

@@ -1,3 +1,4 @@
+#![tactic(auto)]
 // The program `run` with small buffers, so that the tests see the core fed by tiny chunks and its rows leave one by one; the seconds asked
 // have to fit into the first.
 fn main() {

@@ -1,3 +1,4 @@
+#![tactic(auto)]
 // Cases of one second on standard input, and their answers on standard output: what the comparison with the reference program runs.
 // Both are numbers of 8 bytes, little-endian, in the order of the reference's kind `seconds`; the comparison makes them of its lines.
 mod answer;

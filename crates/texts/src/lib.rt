@@ -1,3 +1,4 @@
+#![tactic(auto)]
 // A text in a buffer that the caller lends, from a place on. One that has no room there is not begun.
 ghost use Rattle.std.specs.Prelude.{length};
 ghost use Rattle.texts.specs.Placed.{PutAt};

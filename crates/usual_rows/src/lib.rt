@@ -1,2 +1,3 @@
+#![tactic(auto)]
 // A usual row of the sample file, read in one pass over its bytes.
 pub mod usual;

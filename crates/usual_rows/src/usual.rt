@@ -14,7 +14,7 @@ use words::arithmetic::byte_u32;
 // The most bytes that a usual row has: 9 digits, three powers of 10 bytes, three commas, CR and LF.
 const MOST_USUAL: usize = 44;
 
-#[derive(Drop)]
+#[derive(Clone, Copy)]
 pub enum Usual {
     // the row, and the place after its LF
     Row(Sample, usize),
@@ -22,14 +22,14 @@ pub enum Usual {
 }
 
 // Where digits end, and their number.
-#[derive(Drop)]
+#[derive(Clone, Copy)]
 struct DigitRun {
     end: usize,
     number: u32,
 }
 
 // What a cell from a place on comes to. `specs/Usual.antt` says what is known of each case.
-#[derive(Drop)]
+#[derive(Clone, Copy)]
 enum CellRead {
     // the place after the cell, and its number
     Number(usize, u32),
@@ -37,7 +37,7 @@ enum CellRead {
 }
 
 // What three powers come to.
-#[derive(Drop)]
+#[derive(Clone, Copy)]
 enum PowersRead {
     // the place after them, and their watts in the file's order
     Watts(usize, Powers),
@@ -45,7 +45,7 @@ enum PowersRead {
 }
 
 // What the end of a line comes to.
-#[derive(Drop)]
+#[derive(Clone, Copy)]
 enum EndRead {
     // the place after it
     Next(usize),

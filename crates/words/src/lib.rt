@@ -1,3 +1,4 @@
+#![tactic(auto)]
 // Small sums, bytes, masks and answers in code; nothing of the field.
 pub mod arithmetic;
 pub mod little;

@@ -4,7 +4,7 @@ ghost use Rattle.rules.specs.Answers.{number_and_place};
 
 use rules::answers::Refusal;
 
-#[derive(Drop)]
+#[derive(Clone, Copy)]
 pub struct NumberAndPlace(pub u64, pub u64);
 
 pub fn number_and_place(refusal: Refusal) -> NumberAndPlace
