@@ -27,7 +27,7 @@ fn past_lines(lines: u64, chunk: &[u8]) -> Passed
     let mut left = lines;
     let mut at = 0;
     while 0 < left {
-        let end = bytes::scan::find(chunk, at, chunk.len(), b'\n');
+        let end = byte_search::find(chunk, at, chunk.len(), b'\n');
         if chunk.len() <= end {
             return Passed { at: end, left };
         }

@@ -12,7 +12,7 @@ fn start_of(line: &[u8], place: usize) -> usize {
     let mut at = 0;
     let mut left = place;
     while 0 < left {
-        let end = bytes::scan::find(line, at, line.len(), b',');
+        let end = byte_search::find(line, at, line.len(), b',');
         if line.len() <= end {
             return usize::MAX;
         }

@@ -10,7 +10,7 @@ use lib.Dec.{leb, eqb}
 use lib.ListN.{length, take, drop, get_or, set, length-append, length-take, length-drop, drop_of_length-le}
 use lib.Seq.{take_all, take-length, drop-length, drop-drop, take-append-le, drop-append-le, paste, paste-suc, take-paste}
 use borrow.Author.Tests.{le-leb, lt-leb, eq-eqb, ne_eqb}
-use Rattle.bytes.specs.Bytes.{index_after, index_of, slice}
+use Rattle.byte_search.specs.Bytes.{index_after, index_of, slice}
 use Rattle.rules.specs.declared.samples.Sample.{Sample}
 use Rattle.rules.specs.declared.answers.Refusal.{Refusal}
 use Rattle.rules.specs.declared.answers.Verdict.{Verdict}

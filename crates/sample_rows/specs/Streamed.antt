@@ -1,7 +1,7 @@
 -- The sample file in chunks: what a reader that holds the beginning of a file comes to with any rest of it.
 -- What a call owes is stated over every rest, so that calls chain.
 use Rattle.std.specs.Prelude.{ℕ, min, ◌≤◌, ◌<◌, ◌≡◌, Bool, true, false, List, [], ◌∷◌, ◌++◌, length, take, drop}
-use Rattle.bytes.specs.Bytes.{index_of}
+use Rattle.byte_search.specs.Bytes.{index_of}
 use Rattle.rules.specs.Bytes.{LF, parts}
 use Rattle.rules.specs.Lines.{Line, without_cr, lines_of}
 use Rattle.rules.specs.Answers.{refusal_of}

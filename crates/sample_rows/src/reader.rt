@@ -182,7 +182,7 @@ fn any_line(stage: Stage, line: &[u8; 512], len: usize, chunk: &[u8], at: usize)
     requires { at < length chunk.now }
     ensures { LineRight stage (take len line.now) chunk.now at result }
 {
-    let end = bytes::scan::find(chunk, at, chunk.len(), b'\n');
+    let end = byte_search::find(chunk, at, chunk.len(), b'\n');
     if chunk.len() <= end {
         return LineTurn {
             stage,

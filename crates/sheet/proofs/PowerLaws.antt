@@ -11,7 +11,7 @@ use lib.Dec.{eqb}
 use lib.ListN.{length, take, drop, length-drop}
 use lib.Seq.{take_all, take-length}
 use borrow.Author.Tests.{eqb-true}
-use Rattle.bytes.specs.Bytes.{index_after, index_of, slice}
+use Rattle.byte_search.specs.Bytes.{index_after, index_of, slice}
 use Rattle.rules.specs.Numbers.{if◌then◌else◌, within}
 use Rattle.rules.specs.Bytes.{point, is_digit, all_digits, digits, value_from, value, in_front, parts}
 use Rattle.rules.specs.SampleFile.{power_form, power_value}

@@ -6,7 +6,7 @@ use native.Mathlib.Omega.{arith}
 use native.Mathlib.Decide.{dec_lt}
 use lib.ListN.{length, drop}
 use borrow.Author.Tests.{le-leb, lt-leb, ne_eqb}
-use Rattle.bytes.specs.Bytes.{index_of}
+use Rattle.byte_search.specs.Bytes.{index_of}
 use Rattle.rules.specs.declared.samples.Sample.{Sample}
 use Rattle.rules.specs.Bytes.{comma, parts}
 use Rattle.rules.specs.Lines.{cells_of}

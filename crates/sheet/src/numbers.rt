@@ -66,7 +66,7 @@ pub fn last_worth(decimals: usize) -> u32
 fn watts_of(cell: &[u8]) -> Digits
     ensures { result ≡ formed (power_form (parts point cell.now)) (power_value (parts point cell.now)) }
 {
-    let point = bytes::scan::find(cell, 0, cell.len(), b'.');
+    let point = byte_search::find(cell, 0, cell.len(), b'.');
     let Digits::Number(whole) = digits_of(&cell[..point], MOST_KW_DIGITS) else {
         return Digits::Malformed;
     };

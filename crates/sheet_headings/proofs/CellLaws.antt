@@ -7,7 +7,7 @@ use native.Mathlib.Decide.{dec_lt}
 use native.Mathlib.Nat.{add-sub_cancel_left}
 use lib.ListN.{length, take, drop, get_or, length-drop, drop_of_length-le}
 use lib.Seq.{take-length, drop-drop, length-take-le}
-use Rattle.bytes.specs.Bytes.{index_of, slice}
+use Rattle.byte_search.specs.Bytes.{index_of, slice}
 use Rattle.rules.specs.Bytes.{comma, parts}
 use Rattle.sheet_headings.specs.Cells.{cell_from}
 use Rattle.sheet_headings.proofs.PartsAt.{index-le, part-first, part-last}

@@ -6,7 +6,7 @@ use mathlib.Core.List.{List, [], ◌∷◌}
 use native.Mathlib.Omega.{arith}
 use lib.Dec.{eqb}
 use lib.ListN.{length, take, drop}
-use Rattle.bytes.specs.Bytes.{index_after, index_of}
+use Rattle.byte_search.specs.Bytes.{index_after, index_of}
 use Rattle.rules.specs.Numbers.{if◌then◌else◌}
 use Rattle.rules.specs.Bytes.{in_front, parts}
 

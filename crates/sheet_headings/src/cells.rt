@@ -8,7 +8,7 @@ pub fn cell_at(line: &[u8], at: usize) -> &[u8]
     ensures result_value_2 { result.now ≡ take (length result.now) (drop at line.now) }
 {
     if at <= line.len() {
-        let end = bytes::scan::find(line, at, line.len(), b',');
+        let end = byte_search::find(line, at, line.len(), b',');
         &line[at..end]
     } else {
         &line[..0]

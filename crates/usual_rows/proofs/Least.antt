@@ -1,6 +1,6 @@
 -- Bytes that are not below n. Assumes nothing.
 use Rattle.std.proofs.Common.{◌≡◌, ℕ, suc, ◌+◌, ◌<◌, ◌≤◌, true, leb, List, [], ◌∷◌, length, refl, ap, arith, ne_eqb, le-leb, leb-true}
-use Rattle.bytes.specs.Bytes.{index_after, index_of}
+use Rattle.byte_search.specs.Bytes.{index_after, index_of}
 use Rattle.rules.specs.Numbers.{every}
 use Rattle.rules.specs.Bytes.{digit0, is_digit, all_digits}
 use Rattle.rules.proofs.Tests.{both, and-true, within-fact}

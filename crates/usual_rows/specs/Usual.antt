@@ -1,6 +1,6 @@
 -- Document 01, "The sample file": what reading the usual row in one pass owes. It is a row of `Rows`, and nothing is defined anew.
 use Rattle.std.specs.Prelude.{◌≡◌, ℕ, zero, suc, ◌+◌, ◌<◌, ◌≤◌, true, List, [], ◌∷◌, ◌++◌, length, drop, nat_eq, nat_le, slice_index}
-use Rattle.bytes.specs.Bytes.{index_of}
+use Rattle.byte_search.specs.Bytes.{index_of}
 use Rattle.rules.specs.declared.samples.Sample.{Sample}
 use Rattle.rules.specs.Numbers.{every}
 use Rattle.rules.specs.Bytes.{LF, CR, all_digits, value_from}

@@ -6,7 +6,7 @@ use native.Mathlib.Nat.{mul-le-mul}
 use mathlib.Core.List.{List}
 use lib.ListN.{length, take, drop, length-take}
 use Rattle.rules.specs.Bytes.{point, digits, value}
-use Rattle.bytes.specs.Bytes.{index_of}
+use Rattle.byte_search.specs.Bytes.{index_of}
 use Rattle.sheet.proofs.DigitLaws.{formed-none, Read, read_is}
 use Rattle.sheet.proofs.PowerLaws.{point_at, power-none, power-whole, power-decimals}
 use borrow.Author.Rules.{rules}

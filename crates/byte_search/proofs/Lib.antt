@@ -1,0 +1,2 @@
+-- What a search for a byte found.
+pub mod Found

@@ -1,0 +1,2 @@
+-- Where a byte stands in a text.
+pub mod Bytes
