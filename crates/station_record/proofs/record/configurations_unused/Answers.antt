@@ -1,0 +1,26 @@
+-- `station_record::record::configurations_unused` meets its contract. Assumes nothing.
+use borrow.Author.Rules.{rules}
+use mathlib.Core.Path.{refl}
+use native.Mathlib.Omega.{arith}
+use lib.Dec.{eqb}
+use lib.ListN.{drop}
+use Rattle.rules.specs.Numbers.{all_zero}
+use Rattle.rules.proofs.Tests.{every-turn, every-end}
+use Rattle.station_record.proofs.record.configurations_unused.Goals as goal
+
+pub loop-i-init : goal.loop-i-init
+loop-i-init c = (search rules, refl)
+
+pub loop-i-preserved : goal.loop-i-preserved
+loop-i-preserved c =
+    let at = c.before in
+    let a = at.args in
+    let i = at.loop-i.invariant in
+    (i.0, every-turn (λ x. eqb x 0) a.configs at.loop-i.i (all_zero (drop a.from a.configs)) at.loop-i.ok i.1 0 _ (omega (arith, i.0)) refl)
+
+pub returns : goal.returns
+returns c =
+    let at = c.before in
+    let a = at.args in
+    let i = at.loop-i.invariant in
+    every-end (λ x. eqb x 0) a.configs at.loop-i.i (all_zero (drop a.from a.configs)) at.loop-i.ok i.1 (omega (arith, i.0))

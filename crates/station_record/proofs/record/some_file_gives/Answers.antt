@@ -1,0 +1,19 @@
+-- `station_record::record::some_file_gives` meets its contract. Assumes nothing.
+use Rattle.station_record.proofs.Orders.{counts-first, values-next, unused-last}
+use Rattle.station_record.proofs.record.some_file_gives.Goals as goal
+
+pub returns-then-not-setcount-configcount : goal.returns-then-not-setcount-configcount
+returns-then-not-setcount-configcount c = counts-first c.args.st c.if-not-setcount-configcount.true
+
+pub returns-in_default : goal.returns-in_default
+returns-in_default c =
+    let values = c.before in
+    let one = values.before in
+    values-next one.args.st one.if-not-setcount-configcount.false _ values.values_right-verdict.ensures _ c.in_default.is
+
+pub returns : goal.returns
+returns c =
+    let told = c.before.before.before.before in
+    let values = told.before in
+    let one = values.before in
+    unused-last one.args.st one.if-not-setcount-configcount.false _ values.values_right-verdict.ensures _ _ told.in-Accepted.is c.sets_unused.ensures c.configurations_unused.ensures

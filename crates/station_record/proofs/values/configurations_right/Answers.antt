@@ -1,0 +1,36 @@
+-- `station_record::values::configurations_right` meets its contract. Assumes nothing.
+use borrow.Author.Rules.{rules}
+use mathlib.Core.Path.{◌≡◌, sym, ap, ◌∙◌}
+use native.Mathlib.Omega.{arith}
+use lib.ListN.{length}
+use Rattle.rules.specs.StationRecord.{configurations_right}
+use Rattle.rules.proofs.Tables.{take-least}
+use Rattle.station_record.proofs.Orders.{configuration-mask, configuration-in-order, configurations-in-order}
+use Rattle.station_record.proofs.values.configurations_right.Goals as goal
+
+pub loop-i-init : goal.loop-i-init
+loop-i-init c =
+    let a = c.args in
+    let l : length a.configs ≡ 64 = search rules in
+    (omega arith, omega (arith, l), ap (configurations_right a.setcount 0) (sym (rw (c.lesser-count.ensures, ← l) (take-least a.configcount a.configs))))
+
+pub returns-then-not-configuration_right : goal.returns-then-not-configuration_right
+returns-then-not-configuration_right c =
+    let at = c.before.before.before in
+    let a = at.args in
+    let n = at.lesser-count.result in
+    configuration-mask a.setcount a.configs n _ at.loop-i.i at.loop-i.invariant.1 at.loop-i.invariant.2 (search rules) (sym c.configuration_right.ensures ∙ c.if-not-configuration_right.true)
+
+pub loop-i-preserved : goal.loop-i-preserved
+loop-i-preserved c =
+    let at = c.before.before.before in
+    let a = at.args in
+    let n = at.lesser-count.result in
+    (at.loop-i.invariant.0, at.loop-i.invariant.1, configuration-in-order a.setcount a.configs n _ at.loop-i.i at.loop-i.invariant.1 at.loop-i.invariant.2 (search rules) (sym c.configuration_right.ensures ∙ c.if-not-configuration_right.false))
+
+pub returns : goal.returns
+returns c =
+    let at = c.before in
+    let a = at.args in
+    let n = at.lesser-count.result in
+    configurations-in-order a.setcount a.configs n _ at.loop-i.i at.loop-i.invariant.1 at.loop-i.invariant.2 (search rules)

@@ -1,0 +1,52 @@
+-- `station_record::values::sets_right` meets its contract. Assumes nothing.
+use borrow.Author.Rules.{rules}
+use mathlib.Core.Path.{◌≡◌, sym, ap, ◌∙◌}
+use native.Mathlib.Omega.{arith}
+use lib.ListN.{length}
+use Rattle.rules.specs.StationRecord.{past_end, set_at, sets_right}
+use Rattle.rules.proofs.Tables.{take-least}
+use Rattle.station_record.proofs.Orders.{set-number, set-pairs, set-in-order, sets-in-order}
+use Rattle.station_record.proofs.values.sets_right.Goals as goal
+
+pub loop-i-init : goal.loop-i-init
+loop-i-init c =
+    let a = c.args in
+    let l : length a.sets ≡ 8 = search rules in
+    (omega arith, omega (arith, l), ap (sets_right 0) (sym (rw (c.lesser-count.ensures, ← l) (take-least a.setcount a.sets))))
+
+pub returns-then-not-numbers : goal.returns-then-not-numbers
+unfolding set_at past_end
+returns-then-not-numbers c =
+    let set = c.before.before in
+    let at = set.before.before.before in
+    let a = at.args in
+    let n = at.lesser-count.result in
+    set-number a.sets n _ at.loop-i.i at.loop-i.invariant.1 at.loop-i.invariant.2 (search rules) (sym set.set_right-numbers.ensures ∙ c.if-not-numbers.true)
+
+pub returns-then-not-pairs : goal.returns-then-not-pairs
+unfolding set_at past_end
+returns-then-not-pairs c =
+    let one = c.before in
+    let set = one.before.before in
+    let at = set.before.before.before in
+    let a = at.args in
+    let n = at.lesser-count.result in
+    set-pairs a.sets n _ at.loop-i.i at.loop-i.invariant.1 at.loop-i.invariant.2 (search rules) (sym set.set_right-numbers.ensures ∙ one.if-not-numbers.false) (sym one.pairs_right-pairs.ensures ∙ c.if-not-pairs.true)
+
+pub loop-i-preserved : goal.loop-i-preserved
+unfolding set_at past_end
+loop-i-preserved c =
+    let one = c.before in
+    let set = one.before.before in
+    let at = set.before.before.before in
+    let a = at.args in
+    let n = at.lesser-count.result in
+    let fits = at.loop-i.invariant.1 in
+    (at.loop-i.invariant.0, fits, set-in-order a.sets n _ at.loop-i.i fits at.loop-i.invariant.2 (search rules) (sym set.set_right-numbers.ensures ∙ one.if-not-numbers.false) (sym one.pairs_right-pairs.ensures ∙ c.if-not-pairs.false))
+
+pub returns : goal.returns
+returns c =
+    let at = c.before in
+    let a = at.args in
+    let n = at.lesser-count.result in
+    sets-in-order a.sets n _ at.loop-i.i at.loop-i.invariant.1 at.loop-i.invariant.2 (search rules)
