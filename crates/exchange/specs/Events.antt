@@ -1,7 +1,7 @@
 -- EVENTS one after the other, of any program: the states of its machine from the first to the last, the files and the output, and the bytes
 -- of both buffers. `asks` is what a state asks for, and `One` is what is known of a step; a program's theorem takes for it what the contract
 -- of its own step ensures.
-use Rattle.std.specs.Prelude.{ℕ, zero, suc, ◌+◌, ◌≡◌, List, ◌++◌}
+use Rattle.std.specs.Prelude.{ℕ, zero, suc, ◌≡◌, List, ◌++◌}
 use Rattle.exchange.specs.declared.action.Action.{Action}
 use Rattle.exchange.specs.declared.event.Event.{Event}
 use Rattle.exchange.specs.World.{World, Fits, after}

@@ -14,7 +14,7 @@ use Rattle.rules.specs.declared.run.Mode.TheVariants.{Off, On}
 use Rattle.rules.specs.Numbers.{if◌then◌else◌, has, tab, every}
 use Rattle.rules.specs.StationRecord.{set_at, some_file_gives}
 use Rattle.rules.specs.Modes.{fresh, state_at}
-use Rattle.rules.specs.RunRecord.{start_record, start, mode_possible, counts_possible, state_possible, states_possible, decided_possible, possible}
+use Rattle.rules.specs.RunRecord.{start_record, mode_possible, counts_possible, state_possible, states_possible, decided_possible, possible}
 use Rattle.rules.proofs.Tests.{never, and-true, to-all, fact-within}
 use Rattle.rules.proofs.Tables.{tab-at, has-beyond}
 use Rattle.rules.proofs.StationFacts.{right_of, online-existing, least_start, start-most}

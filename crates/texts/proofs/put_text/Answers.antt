@@ -1,5 +1,4 @@
 -- `put_text` meets its contract. The invariant: the bytes before `at`, and those of the text so far, stand at the buffer's front. Assumes nothing.
-use Prim.Native.Nat.{◌-◌}
 use mathlib.Core.Path.{refl}
 use native.Mathlib.Omega.{arith}
 use lib.ListN.{length, length-set}
