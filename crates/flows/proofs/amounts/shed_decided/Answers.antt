@@ -1,0 +1,7 @@
+-- `amounts::shed_decided` meets its contract. Assumes nothing.
+use Rattle.rules.specs.Flows.{shed_decided}
+use Rattle.flows.proofs.amounts.shed_decided.Goals as goal
+
+pub returns : goal.returns
+unfolding shed_decided
+returns c = simp (c.at_most.ensures, c.over.ensures, c.percent.ensures, c.over_u32-left.ensures)
