@@ -1,8 +1,11 @@
 // Texts as they are, and texts of a table that are filled up to a length.
 ghost use Rattle.std.specs.Prelude.{◌≤◌, length};
 
-pub fn say(text: &[u8]) {
-    io::write_all(libc::STDERR_FILENO, text);
+use std::io::Write;
+
+// What cannot be written is told nobody: there is nowhere else to say it.
+pub fn say<W: Write>(err: &mut W, text: &[u8]) {
+    let _ = err.write_all(text);
 }
 
 // Where the spaces begin that a text is filled up with.
@@ -20,7 +23,7 @@ fn end_of(text: &[u8]) -> usize
 }
 
 // A text without the spaces that it is filled up with.
-pub fn say_filled(text: &[u8]) {
+pub fn say_filled<W: Write>(err: &mut W, text: &[u8]) {
     let end = end_of(text);
-    say(&text[0..end]);
+    say(err, &text[0..end]);
 }
