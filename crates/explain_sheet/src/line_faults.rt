@@ -3,6 +3,7 @@ use crate::columns::{column_of, part_at, parts_of};
 use plain_words::numbers::{count_of, number, number_from_one};
 use plain_words::shown::{show, show_bare};
 use plain_words::texts::say;
+use std::io::Write;
 
 // A column after the time's.
 #[derive(Clone, Copy)]
@@ -21,80 +22,80 @@ fn name_in(column: Column) -> u8 {
     }
 }
 
-fn say_missing_name(column: Column) {
+fn say_missing_name<W: Write>(err: &mut W, column: Column) {
     match column {
-        Column::Load => say(b": LoadP is missing.\n"),
-        Column::Solar => say(b": PvAvailP is missing.\n"),
-        Column::Sheddable => say(b": ShedLoadP is missing.\n"),
+        Column::Load => say(err, b": LoadP is missing.\n"),
+        Column::Solar => say(err, b": PvAvailP is missing.\n"),
+        Column::Sheddable => say(err, b": ShedLoadP is missing.\n"),
     }
 }
 
 // `check: sample file, line 3` starts each message.
-pub(crate) fn say_line(line: u64) {
-    say(b"check: sample file, line ");
-    number(line);
+pub(crate) fn say_line<W: Write>(err: &mut W, line: u64) {
+    say(err, b"check: sample file, line ");
+    number(err, line);
 }
 
 // A cell with its number from 1, its text and its heading.
-pub(crate) fn say_cell(headings: &[u8], text: &[u8], place: usize) {
-    say(b", cell ");
-    number_from_one(place);
-    say(b" ");
-    show(part_at(text, place));
-    say(b" (");
-    show_bare(part_at(headings, place));
-    say(b")");
+pub(crate) fn say_cell<W: Write>(err: &mut W, headings: &[u8], text: &[u8], place: usize) {
+    say(err, b", cell ");
+    number_from_one(err, place);
+    say(err, b" ");
+    show(err, part_at(text, place));
+    say(err, b" (");
+    show_bare(err, part_at(headings, place));
+    say(err, b")");
 }
 
 // 11
-pub fn say_long(line: u64, text: &[u8]) {
-    say_line(line);
-    say(b" is too long. It begins ");
-    show(text);
-    say(b".\n");
+pub fn say_long<W: Write>(err: &mut W, line: u64, text: &[u8]) {
+    say_line(err, line);
+    say(err, b" is too long. It begins ");
+    show(err, text);
+    say(err, b".\n");
 }
 
-fn say_if_missing(line: u64, headings: &[u8], column: Column) {
+fn say_if_missing<W: Write>(err: &mut W, line: u64, headings: &[u8], column: Column) {
     if column_of(headings, name_in(column)) < parts_of(headings) {
         return;
     }
-    say_line(line);
-    say(b", headings ");
-    show(headings);
-    say_missing_name(column);
+    say_line(err, line);
+    say(err, b", headings ");
+    show(err, headings);
+    say_missing_name(err, column);
 }
 
 // 15
-pub fn say_missing(line: u64, headings: &[u8]) {
-    say_if_missing(line, headings, Column::Load);
-    say_if_missing(line, headings, Column::Solar);
-    say_if_missing(line, headings, Column::Sheddable);
+pub fn say_missing<W: Write>(err: &mut W, line: u64, headings: &[u8]) {
+    say_if_missing(err, line, headings, Column::Load);
+    say_if_missing(err, line, headings, Column::Solar);
+    say_if_missing(err, line, headings, Column::Sheddable);
 }
 
 // 16
-pub fn say_first_heading(line: u64, headings: &[u8]) {
-    say_line(line);
+pub fn say_first_heading<W: Write>(err: &mut W, line: u64, headings: &[u8]) {
+    say_line(err, line);
     if headings.len() == 0 {
-        say(b" is empty, so heading 1 '' is not t.\n");
+        say(err, b" is empty, so heading 1 '' is not t.\n");
         return;
     }
-    say(b", heading 1 ");
-    show(part_at(headings, 0));
-    say(b" is not t.\n");
+    say(err, b", heading 1 ");
+    show(err, part_at(headings, 0));
+    say(err, b" is not t.\n");
 }
 
 // 17
-pub fn say_count(line: u64, text: &[u8]) {
-    say_line(line);
-    say(b" ");
-    show(text);
-    say(b" has ");
-    count_of(parts_of(text) as u64, b"cell");
-    say(b".\n");
+pub fn say_count<W: Write>(err: &mut W, line: u64, text: &[u8]) {
+    say_line(err, line);
+    say(err, b" ");
+    show(err, text);
+    say(err, b" has ");
+    count_of(err, parts_of(text) as u64, b"cell");
+    say(err, b".\n");
 }
 
 // 20
-pub fn say_shed(line: u64, headings: &[u8], text: &[u8]) {
+pub fn say_shed<W: Write>(err: &mut W, line: u64, headings: &[u8], text: &[u8]) {
     let columns = parts_of(headings);
     let sheddable = column_of(headings, name_in(Column::Sheddable));
     let load = column_of(headings, name_in(Column::Load));
@@ -104,23 +105,23 @@ pub fn say_shed(line: u64, headings: &[u8], text: &[u8]) {
     if columns <= load {
         return;
     }
-    say_line(line);
-    say_cell(headings, text, sheddable);
-    say(b" is above the load");
-    say_cell(headings, text, load);
-    say(b".\n");
+    say_line(err, line);
+    say_cell(err, headings, text, sheddable);
+    say(err, b" is above the load");
+    say_cell(err, headings, text, load);
+    say(err, b".\n");
 }
 
 // 21
-pub fn say_first_time(line: u64, text: &[u8]) {
-    say_line(line);
-    say(b", cell 1 ");
-    show(part_at(text, 0));
-    say(b" (t) is not 0, and this is the first row.\n");
+pub fn say_first_time<W: Write>(err: &mut W, line: u64, text: &[u8]) {
+    say_line(err, line);
+    say(err, b", cell 1 ");
+    show(err, part_at(text, 0));
+    say(err, b" (t) is not 0, and this is the first row.\n");
 }
 
 // Where the file cannot be read a second time, as a pipe cannot.
-pub fn say_unseen(line: u64) {
-    say_line(line);
-    say(b" is wrong; its text cannot be shown, since the file could not be read a second time.\n");
+pub fn say_unseen<W: Write>(err: &mut W, line: u64) {
+    say_line(err, line);
+    say(err, b" is wrong; its text cannot be shown, since the file could not be read a second time.\n");
 }

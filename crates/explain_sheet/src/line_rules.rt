@@ -4,65 +4,69 @@ use plain_words::texts::say;
 use rules::limits::{
     MOST_DECIMALS, MOST_KW_DIGITS, MOST_LINE, MOST_POWER, MOST_TIME, MOST_TIME_DIGITS,
 };
+use std::io::Write;
 
 // 11
-pub fn say_length_rule() {
-    say(b"check: right is: a line of at most ");
-    number(MOST_LINE as u64);
-    say(b" bytes without its line feed (LF).\n");
+pub fn say_length_rule<W: Write>(err: &mut W) {
+    say(err, b"check: right is: a line of at most ");
+    number(err, MOST_LINE as u64);
+    say(err, b" bytes without its line feed (LF).\n");
 }
 
 // 12 to 16
-pub fn say_heading_rule() {
+pub fn say_heading_rule<W: Write>(err: &mut W) {
     say(
+        err,
         b"check: right is: the first line has the headings t first, then LoadP, PvAvailP and ShedLoadP once each in any order",
     );
-    say(b", with a comma between them and no other heading, space or quote.\n");
+    say(err, b", with a comma between them and no other heading, space or quote.\n");
 }
 
 // 17
-pub fn say_count_rule() {
+pub fn say_count_rule<W: Write>(err: &mut W) {
     say(
+        err,
         b"check: right is: each row has 4 cells with a comma between them, one for each heading; an empty line is a row too.\n",
     );
 }
 
-fn say_time_rule() {
-    say(b"check: right is: a time is 1 to ");
-    number(MOST_TIME_DIGITS as u64);
-    say(b" digits, in seconds, at most ");
-    number(MOST_TIME as u64);
+fn say_time_rule<W: Write>(err: &mut W) {
+    say(err, b"check: right is: a time is 1 to ");
+    number(err, MOST_TIME_DIGITS as u64);
+    say(err, b" digits, in seconds, at most ");
+    number(err, MOST_TIME as u64);
 }
 
-fn say_power_rule() {
-    say(b"; a power is 1 to ");
-    number(MOST_KW_DIGITS as u64);
-    say(b" digits, and if need be a point and 1 to ");
-    number(MOST_DECIMALS as u64);
-    say(b" digits, in kW, at most ");
-    number(MOST_POWER as u64 / 1000);
+fn say_power_rule<W: Write>(err: &mut W) {
+    say(err, b"; a power is 1 to ");
+    number(err, MOST_KW_DIGITS as u64);
+    say(err, b" digits, and if need be a point and 1 to ");
+    number(err, MOST_DECIMALS as u64);
+    say(err, b" digits, in kW, at most ");
+    number(err, MOST_POWER as u64 / 1000);
 }
 
 // 18, 19
-pub fn say_cell_rule() {
-    say_time_rule();
-    say_power_rule();
-    say(b"; no cell may be blank.\n");
+pub fn say_cell_rule<W: Write>(err: &mut W) {
+    say_time_rule(err);
+    say_power_rule(err);
+    say(err, b"; no cell may be blank.\n");
 }
 
 // 20
-pub fn say_shed_rule() {
+pub fn say_shed_rule<W: Write>(err: &mut W) {
     say(
+        err,
         b"check: right is: the sheddable load (ShedLoadP) is a part of the load (LoadP), so at most as much.\n",
     );
 }
 
 // 21
-pub fn say_first_time_rule() {
-    say(b"check: right is: the first row's time is 0.\n");
+pub fn say_first_time_rule<W: Write>(err: &mut W) {
+    say(err, b"check: right is: the first row's time is 0.\n");
 }
 
 // 22
-pub fn say_row_rule() {
-    say(b"check: right is: at least one row after the heading line, the first at the time 0.\n");
+pub fn say_row_rule<W: Write>(err: &mut W) {
+    say(err, b"check: right is: at least one row after the heading line, the first at the time 0.\n");
 }

@@ -7,6 +7,7 @@ use plain_words::texts::say;
 use rules::limits::{MOST_POWER, MOST_TIME};
 use sheet::numbers::{CellValue, cell_under};
 use sheet_headings::headings::name_of;
+use std::io::Write;
 
 // What can be wrong with a heading, and with a cell.
 #[derive(Clone, Copy)]
@@ -60,57 +61,57 @@ fn first_fault(fault: PartFault, headings: &[u8], text: &[u8]) -> usize {
     parts
 }
 
-fn say_heading(text: &[u8], place: usize) {
-    say(b", heading ");
-    number_from_one(place);
-    say(b" ");
-    show(part_at(text, place));
+fn say_heading<W: Write>(err: &mut W, text: &[u8], place: usize) {
+    say(err, b", heading ");
+    number_from_one(err, place);
+    say(err, b" ");
+    show(err, part_at(text, place));
 }
 
-fn say_part(fault: PartFault, headings: &[u8], text: &[u8], place: usize) {
+fn say_part<W: Write>(err: &mut W, fault: PartFault, headings: &[u8], text: &[u8], place: usize) {
     match fault {
-        PartFault::Blank | PartFault::Unknown | PartFault::Twice => say_heading(text, place),
-        PartFault::Malformed | PartFault::OverLimit => say_cell(headings, text, place),
+        PartFault::Blank | PartFault::Unknown | PartFault::Twice => say_heading(err, text, place),
+        PartFault::Malformed | PartFault::OverLimit => say_cell(err, headings, text, place),
     }
 }
 
-fn say_malformed(size: usize) {
+fn say_malformed<W: Write>(err: &mut W, size: usize) {
     if size == 0 {
-        say(b" is blank.\n");
+        say(err, b" is blank.\n");
         return;
     }
-    say(b" is malformed.\n");
+    say(err, b" is malformed.\n");
 }
 
 // The time is the first cell of a row, and the others are powers.
-fn say_limit(place: usize) {
-    say(b" is over its limit of ");
+fn say_limit<W: Write>(err: &mut W, place: usize) {
+    say(err, b" is over its limit of ");
     if place == 0 {
-        number(MOST_TIME as u64);
-        say(b" s.\n");
+        number(err, MOST_TIME as u64);
+        say(err, b" s.\n");
         return;
     }
-    number(MOST_POWER as u64 / 1000);
-    say(b" kW.\n");
+    number(err, MOST_POWER as u64 / 1000);
+    say(err, b" kW.\n");
 }
 
-fn say_what(fault: PartFault, size: usize, place: usize) {
+fn say_what<W: Write>(err: &mut W, fault: PartFault, size: usize, place: usize) {
     match fault {
-        PartFault::Blank => say(b" is blank.\n"),
-        PartFault::Unknown => say(b" is not a heading of this sheet.\n"),
-        PartFault::Twice => say(b" is there a second time.\n"),
-        PartFault::Malformed => say_malformed(size),
-        PartFault::OverLimit => say_limit(place),
+        PartFault::Blank => say(err, b" is blank.\n"),
+        PartFault::Unknown => say(err, b" is not a heading of this sheet.\n"),
+        PartFault::Twice => say(err, b" is there a second time.\n"),
+        PartFault::Malformed => say_malformed(err, size),
+        PartFault::OverLimit => say_limit(err, place),
     }
 }
 
 // The line as it was found in the file, with the heading line, which is the line itself where a heading is wrong.
-pub fn say_part_fault(fault: PartFault, line: u64, headings: &[u8], text: &[u8]) {
+pub fn say_part_fault<W: Write>(err: &mut W, fault: PartFault, line: u64, headings: &[u8], text: &[u8]) {
     let place = first_fault(fault, headings, text);
     if parts_of(text) <= place {
         return;
     }
-    say_line(line);
-    say_part(fault, headings, text, place);
-    say_what(fault, part_at(text, place).len(), place);
+    say_line(err, line);
+    say_part(err, fault, headings, text, place);
+    say_what(err, fault, part_at(text, place).len(), place);
 }

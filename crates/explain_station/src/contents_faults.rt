@@ -7,6 +7,7 @@ use station_fields::layout::{
     BATTERY_AT, CONFIGURATIONS_PART, CONTROL_AT, COUNTS, ENTRY_COUNT, ENTRY_OFFSET, ENTRY_SIZE,
     KINDS, PARTS, Part, SET_SIZE, SETS_AT, SETS_PART,
 };
+use std::io::Write;
 
 // "a file has 165 to 676 bytes": the fewest and the most sets and configurations, after the other bodies
 const LEAST_SIZE: u64 = SETS_AT as u64
@@ -21,9 +22,10 @@ const MOST_CONFIGURATIONS: u64 = CONFIGURATIONS_PART.most;
 const MOST_COUNTED: usize = 4096;
 
 // 1. Of a file that is too long only its size is known, since its bytes are not held.
-pub fn say_size(size: usize) {
+pub fn say_size<W: Write>(err: &mut W, size: usize) {
     if MOST_COUNTED <= size {
         ask(
+            err,
             b"check: station file, its size is ",
             MOST_COUNTED as u64,
             LEAST_SIZE,
@@ -33,6 +35,7 @@ pub fn say_size(size: usize) {
         return;
     }
     ask(
+        err,
         b"check: station file, its size is ",
         size as u64,
         LEAST_SIZE,
@@ -58,10 +61,11 @@ fn body_at(file: &[u8], place: usize) -> usize {
 }
 
 // An entry of the table of contents: its kind, its count and its offset.
-fn ask_entry(entry: &[u8], part: Part, offset: u64) {
+fn ask_entry<W: Write>(err: &mut W, entry: &[u8], part: Part, offset: u64) {
     let kinds = KINDS;
     let counts = COUNTS;
     ask(
+        err,
         b"check: station file, kind of that entry is ",
         number_at(entry, 0, ENTRY_COUNT),
         part.kind,
@@ -69,6 +73,7 @@ fn ask_entry(entry: &[u8], part: Part, offset: u64) {
         &kinds,
     );
     ask(
+        err,
         b"check: station file, count of that entry is ",
         number_at(entry, ENTRY_COUNT, ENTRY_OFFSET - ENTRY_COUNT),
         part.least,
@@ -76,6 +81,7 @@ fn ask_entry(entry: &[u8], part: Part, offset: u64) {
         &counts,
     );
     ask(
+        err,
         b"check: station file, offset of that entry is ",
         number_at(entry, ENTRY_OFFSET, ENTRY_SIZE - ENTRY_OFFSET),
         offset,
@@ -85,12 +91,13 @@ fn ask_entry(entry: &[u8], part: Part, offset: u64) {
 }
 
 // 2
-pub fn say_entry(file: &[u8], entry: u32) {
-    say(b"check: station file, entry ");
-    number(entry as u64);
-    say(b" of the table of contents is wrong.\n");
+pub fn say_entry<W: Write>(err: &mut W, file: &[u8], entry: u32) {
+    say(err, b"check: station file, entry ");
+    number(err, entry as u64);
+    say(err, b" of the table of contents is wrong.\n");
     let place = from_zero(entry);
     ask_entry(
+        err,
         from_place(file, ENTRY_SIZE * place),
         part_at(place),
         body_at(file, place) as u64,
@@ -98,13 +105,14 @@ pub fn say_entry(file: &[u8], entry: u32) {
 }
 
 // 3
-pub fn say_contents_size(file: &[u8]) {
+pub fn say_contents_size<W: Write>(err: &mut W, file: &[u8]) {
     let configcount = configcount_of(file);
     if MOST_CONFIGURATIONS < configcount {
         return;
     }
     let size = configurations_at(file) as u64 + configcount;
     ask(
+        err,
         b"check: station file, its size is ",
         file.len() as u64,
         size,

@@ -8,6 +8,7 @@ use station_fields::control::{FILTER_K, MINIMUM_SECONDS, ON_LINE};
 use station_fields::field::Field;
 use station_fields::genset::{SERVICE_INTERVAL, SERVICE_TIME};
 use words::masks::existing_only;
+use std::io::Write;
 
 // The rows that a rule over several numbers is asked of, and the numbers that it asks beside them.
 const ON_LINE_AT: usize = ON_LINE.offset;
@@ -33,32 +34,33 @@ const FILTER_K_PLACE: usize = FILTER_K.offset / FILTER_K.width;
 
 const MINIMUM_SECONDS_PLACE: usize = MINIMUM_SECONDS.offset / MINIMUM_SECONDS.width;
 
-fn ask_range(body: Body, row: Field, value: u64) {
-    ask_row(body, row, value, row.least, row.most, b"");
+fn ask_range<W: Write>(err: &mut W, body: Body, row: Field, value: u64) {
+    ask_row(err, body, row, value, row.least, row.most, b"");
 }
 
 // "mask of sets on line at the start (bit 0 is set 1, existing sets only)"
-fn ask_online(setcount: usize, row: Field, mask: u64) {
+fn ask_online<W: Write>(err: &mut W, setcount: usize, row: Field, mask: u64) {
     if existing_only(setcount, mask) {
         return;
     }
-    say_found(Body::Control(setcount), row, mask);
-    say_mask_rule(setcount);
+    say_found(err, Body::Control(setcount), row, mask);
+    say_mask_rule(err, setcount);
 }
 
-fn ask_control(setcount: usize, row: Field, value: u64) {
+fn ask_control<W: Write>(err: &mut W, setcount: usize, row: Field, value: u64) {
     if row.offset == ON_LINE_AT {
-        ask_online(setcount, row, value);
+        ask_online(err, setcount, row, value);
         return;
     }
-    ask_range(Body::Control(setcount), row, value);
+    ask_range(err, Body::Control(setcount), row, value);
 }
 
 // "least <= start <= most": what is wrong with the least content is told of the content at the start.
-fn ask_start(bytes: &[u8], row: Field, start: u64) {
+fn ask_start<W: Write>(err: &mut W, bytes: &[u8], row: Field, start: u64) {
     let least = number_at(bytes, LEAST_CONTENT_AT, LEAST_CONTENT_WIDTH);
     let most = number_at(bytes, MOST_CONTENT_AT, MOST_CONTENT_WIDTH);
     ask_row(
+        err,
         Body::Battery,
         row,
         start,
@@ -67,6 +69,7 @@ fn ask_start(bytes: &[u8], row: Field, start: u64) {
         b", not below the least content",
     );
     ask_row(
+        err,
         Body::Battery,
         row,
         start,
@@ -76,21 +79,22 @@ fn ask_start(bytes: &[u8], row: Field, start: u64) {
     );
 }
 
-fn ask_battery(bytes: &[u8], row: Field, value: u64) {
+fn ask_battery<W: Write>(err: &mut W, bytes: &[u8], row: Field, value: u64) {
     if row.offset == START_CONTENT_AT {
-        ask_start(bytes, row, value);
+        ask_start(err, bytes, row, value);
         return;
     }
     if row.offset == LEAST_CONTENT_AT {
         return;
     }
-    ask_range(Body::Battery, row, value);
+    ask_range(err, Body::Battery, row, value);
 }
 
 // "service time s 1 to 2,592,000, but 0 where the interval is 0"
-fn ask_service(bytes: &[u8], row: Field, service: u64) {
+fn ask_service<W: Write>(err: &mut W, bytes: &[u8], row: Field, service: u64) {
     if number_at(bytes, INTERVAL_AT, INTERVAL_WIDTH) == 0 {
         ask_row(
+            err,
             Body::Set,
             row,
             service,
@@ -100,34 +104,34 @@ fn ask_service(bytes: &[u8], row: Field, service: u64) {
         );
         return;
     }
-    ask_row(Body::Set, row, service, 1, row.most, b"");
+    ask_row(err, Body::Set, row, service, 1, row.most, b"");
 }
 
-fn ask_set(bytes: &[u8], row: Field, value: u64) {
+fn ask_set<W: Write>(err: &mut W, bytes: &[u8], row: Field, value: u64) {
     if row.offset == SERVICE_TIME_AT {
-        ask_service(bytes, row, value);
+        ask_service(err, bytes, row, value);
         return;
     }
-    ask_range(Body::Set, row, value);
+    ask_range(err, Body::Set, row, value);
 }
 
 // "Unused pairs are zero."
-fn ask_unused(body: Body, row: Field, value: u64) {
+fn ask_unused<W: Write>(err: &mut W, body: Body, row: Field, value: u64) {
     if value == 0 {
         return;
     }
-    say_found(body, row, value);
-    say(b"; right is 0, since the set has fewer points.\n");
+    say_found(err, body, row, value);
+    say(err, b"; right is 0, since the set has fewer points.\n");
 }
 
-fn ask_number(bytes: &[u8], body: Body, row: Field) {
+fn ask_number<W: Write>(err: &mut W, bytes: &[u8], body: Body, row: Field) {
     let value = number_of(bytes, row);
     match body {
-        Body::Control(setcount) => ask_control(setcount, row, value),
-        Body::Battery => ask_battery(bytes, row, value),
-        Body::Set => ask_set(bytes, row, value),
-        Body::Pair(_) => ask_range(body, row, value),
-        Body::UnusedPair(_) => ask_unused(body, row, value),
+        Body::Control(setcount) => ask_control(err, setcount, row, value),
+        Body::Battery => ask_battery(err, bytes, row, value),
+        Body::Set => ask_set(err, bytes, row, value),
+        Body::Pair(_) => ask_range(err, body, row, value),
+        Body::UnusedPair(_) => ask_unused(err, body, row, value),
     }
 }
 
@@ -151,11 +155,11 @@ fn told_place(body: Body, place: usize) -> usize {
 }
 
 // What is wrong in the body that the bytes start with.
-pub(crate) fn ask_rows(bytes: &[u8], body: Body) {
+pub(crate) fn ask_rows<W: Write>(err: &mut W, bytes: &[u8], body: Body) {
     let rows = rows_of(body);
     let mut place = 0;
     while place < rows {
-        ask_number(bytes, body, row_at(body, told_place(body, place)));
+        ask_number(err, bytes, body, row_at(body, told_place(body, place)));
         place += 1;
     }
 }

@@ -5,6 +5,7 @@ ghost use Rattle.refusal_words.specs.Places.{place_of, line_or, configuration_or
 use plain_words::numbers::number;
 use plain_words::texts::say;
 use rules::answers::Refusal;
+use std::io::Write;
 
 #[derive(Clone, Copy)]
 pub enum Place {
@@ -76,30 +77,30 @@ pub fn place_of(refusal: Refusal) -> Place
 }
 
 // Of which file or argument it is.
-pub(crate) fn say_subject(place: Place) {
+pub(crate) fn say_subject<W: Write>(err: &mut W, place: Place) {
     match place {
-        Place::StationFile | Place::Entry(_) | Place::Set(_) => say(b"the station file"),
-        Place::Configuration(_) => say(b"the station file"),
-        Place::SampleFile | Place::Line(_) => say(b"the sample file"),
-        Place::Seconds => say(b"SECONDS"),
-        Place::Call => say(b"a call"),
+        Place::StationFile | Place::Entry(_) | Place::Set(_) => say(err, b"the station file"),
+        Place::Configuration(_) => say(err, b"the station file"),
+        Place::SampleFile | Place::Line(_) => say(err, b"the sample file"),
+        Place::Seconds => say(err, b"SECONDS"),
+        Place::Call => say(err, b"a call"),
     }
 }
 
-fn say_counted(what: &[u8], count: u64) {
-    say(what);
-    number(count);
+fn say_counted<W: Write>(err: &mut W, what: &[u8], count: u64) {
+    say(err, what);
+    number(err, count);
 }
 
 // What the place counts, after a comma; nothing where it counts nothing.
-pub fn say_place(place: Place) {
+pub fn say_place<W: Write>(err: &mut W, place: Place) {
     match place {
         Place::StationFile | Place::SampleFile | Place::Seconds | Place::Call => {}
-        Place::Entry(entry) => say_counted(b", entry ", entry as u64),
-        Place::Set(set) => say_counted(b", set ", set as u64),
+        Place::Entry(entry) => say_counted(err, b", entry ", entry as u64),
+        Place::Set(set) => say_counted(err, b", set ", set as u64),
         Place::Configuration(configuration) => {
-            say_counted(b", configuration ", configuration as u64)
+            say_counted(err, b", configuration ", configuration as u64)
         }
-        Place::Line(line) => say_counted(b", line ", line),
+        Place::Line(line) => say_counted(err, b", line ", line),
     }
 }

@@ -3,11 +3,12 @@ use crate::places::{Place, say_subject};
 use plain_words::numbers::number;
 use plain_words::texts::say;
 use rules::answers::Refusal;
+use std::io::Write;
 use words::refusals::number_and_place;
 
-pub fn say_refused(refusal: Refusal, place: Place) {
+pub fn say_refused<W: Write>(err: &mut W, refusal: Refusal, place: Place) {
     let answer = number_and_place(refusal);
-    say_subject(place);
-    say(b" is refused with the number ");
-    number(answer.0);
+    say_subject(err, place);
+    say(err, b" is refused with the number ");
+    number(err, answer.0);
 }
