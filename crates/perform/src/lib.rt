@@ -1,12 +1,15 @@
 #![tactic(auto)]
 // What a program asks for, performed, and what came of it. It is the same for every program. Its contract has the shape of each answer;
 // that the bytes are the files', and reach standard output, no contract can say: what is taken on trust stands in exchange/specs/World.antt.
-ghost use Rattle.std.specs.Prelude.{◌≡◌, ◌≤◌, min, negsuc, length, replicate};
+ghost use Rattle.std.specs.Prelude.{◌≡◌, ◌≤◌, min, length, replicate, None, IfOk};
 ghost use Rattle.perform.specs.Shape.{Shaped, ShapedArgument, ShapedRead, ShapedDone};
 ghost use Rattle.exchange.specs.World.{Outside};
 
 use exchange::action::Action;
 use exchange::event::Event;
+use std::env::{Env, FillError};
+use std::io::{Error, Read, Seek};
+use std::{fs, io};
 
 // How many arguments can name a file, the program's own name counted.
 const PLACES: usize = 8;
@@ -14,37 +17,54 @@ const PLACES: usize = 8;
 // The bytes that each argument's path has in the lent paths.
 const SLOT: usize = 4096;
 
-// Of each argument the descriptor of its file, -1 where none is open, and how many bytes of its slot its path has.
-#[derive(Clone, Copy)]
-pub struct Files {
-    descriptors: [i32; 8],
+// The system's numbers for what it is not asked: that nothing failed, of a file that was not opened, of an argument that is not there, of
+// one that is too long for a path, and of one that is no text, as a path has to be here.
+const NOTHING_FAILED: i32 = 0;
+
+const NOT_OPEN: i32 = 9;
+
+const NO_ARGUMENT: i32 = 22;
+
+const TOO_LONG: i32 = 36;
+
+const NO_TEXT: i32 = 84;
+
+// Of each argument its file, where one is open, and how many bytes of its slot its path has; and the system's reason for what failed last.
+#[derive(Drop)]
+pub struct Files<F> {
+    opened: [Option<F>; 8],
     ends: [usize; 8],
+    reason: Error,
 }
 
-#[derive(Clone, Copy)]
-pub struct Performed {
-    pub files: Files,
+#[derive(Drop)]
+pub struct Performed<F> {
+    pub files: Files<F>,
     pub event: Event,
 }
 
-pub fn no_files() -> Files
-    ensures { (result.descriptors ≡ replicate 8 (negsuc 0)) × (result.ends ≡ replicate 8 0) }
+pub fn no_files<F>() -> Files<F>
+    ensures { (result.opened ≡ replicate 8 None) × (result.ends ≡ replicate 8 0) }
 {
     Files {
-        descriptors: [-1; 8],
+        opened: [None, None, None, None, None, None, None, None],
         ends: [0; 8],
+        reason: Error::from_raw_os_error(NOTHING_FAILED),
     }
 }
 
-fn descriptor(files: Files, place: usize) -> i32 {
+// The file that an argument names, where it is open.
+fn file_of<F>(files: &mut Files<F>, place: usize) -> io::Result<&mut F> {
     if place < PLACES {
-        return files.descriptors[place];
+        if let Some(file) = &mut files.opened[place] {
+            return Ok(file);
+        }
     }
-    -1
+    Err(Error::from_raw_os_error(NOT_OPEN))
 }
 
 // How many bytes of its slot an argument's path has, 0 where there is none.
-pub fn path_end(files: Files, place: usize) -> usize
+pub fn path_end<F>(files: &Files<F>, place: usize) -> usize
     ensures { result ≤ 4096 }
 {
     if place < PLACES {
@@ -56,66 +76,84 @@ pub fn path_end(files: Files, place: usize) -> usize
     0
 }
 
-fn with_file(files: Files, place: usize, fd: i32, end: usize) -> Files {
-    let mut descriptors = files.descriptors;
-    let mut ends = files.ends;
-    if place < PLACES {
-        descriptors[place] = fd;
-        ends[place] = end;
-    }
-    Files { descriptors, ends }
+// The system's reason for what failed last.
+pub fn reason<F>(files: &Files<F>) -> Error {
+    files.reason
 }
 
-fn done(well: bool) -> Event
+fn done<F>(files: &mut Files<F>, came: io::Result<()>) -> Event
     ensures { ShapedDone result }
 {
-    if well {
-        return Event::Done;
+    match came {
+        Ok(()) => Event::Done,
+        Err(reason) => {
+            files.reason = reason;
+            Event::Failed
+        }
     }
-    Event::Failed
+}
+
+// The first place without an argument.
+fn count<R: Env>(rt: &R) -> usize {
+    for place in 0..usize::MAX {
+        if let Err(FillError::NotPresent) = rt.arg(place, &mut []) {
+            return place;
+        }
+    }
+    usize::MAX
 }
 
 // The argument's bytes; one that is too long leaves its first bytes in the buffer.
-fn argument(place: usize, buf: &mut [u8]) -> Event
+fn argument<R: Env>(rt: &R, place: usize, buf: &mut [u8]) -> Event
     ensures { ShapedArgument result buf.new × (length buf.new ≡ length buf.old) }
 {
-    let size = os::arg(place, buf);
-    let error = os::errno();
-    if error == 0 {
-        return Event::Read(size);
+    match rt.arg(place, buf) {
+        Ok(size) => Event::Read(size),
+        Err(FillError::TooLong) => Event::Read(buf.len()),
+        Err(FillError::NotPresent) => Event::Failed,
     }
-    if error == libc::ENAMETOOLONG {
-        return Event::Read(buf.len());
-    }
-    Event::Failed
 }
 
-#[derive(Clone, Copy)]
-struct Opened {
-    fd: i32,
-    end: usize,
+// Puts an argument's bytes into its slot, and answers how many they are.
+fn path_of<R: Env>(rt: &R, place: usize, slot: &mut [u8]) -> io::Result<usize>
+    ensures { IfOk result (λ n. n ≤ length slot.new) }
+{
+    match rt.arg(place, slot) {
+        Ok(size) => Ok(size),
+        Err(FillError::TooLong) => Err(Error::from_raw_os_error(TOO_LONG)),
+        Err(FillError::NotPresent) => Err(Error::from_raw_os_error(NO_ARGUMENT)),
+    }
+}
+
+fn open_path<R: fs::Files>(rt: &R, path: &[u8]) -> io::Result<R::File> {
+    match str::from_utf8(path) {
+        Ok(path) => fs::open(rt, path),
+        Err(_) => Err(Error::from_raw_os_error(NO_TEXT)),
+    }
 }
 
 // The path stays in its slot, for whoever is told of the file. A path that is cut short would name another file.
-fn open(place: usize, paths: &mut [u8]) -> Opened {
-    let nothing = Opened { fd: -1, end: 0 };
+fn open<R: fs::Files + Env>(
+    rt: &R,
+    files: &mut Files<R::File>,
+    place: usize,
+    paths: &mut [u8],
+) -> io::Result<()> {
     if PLACES <= place {
-        return nothing;
+        return Err(Error::from_raw_os_error(NO_ARGUMENT));
     }
+    files.opened[place] = None;
+    files.ends[place] = 0;
     let from = place * SLOT;
     let to = from + SLOT;
     if paths.len() < to {
-        return nothing;
+        return Err(Error::from_raw_os_error(TOO_LONG));
     }
-    let end = os::arg(place, &mut paths[from..to]);
-    if os::errno() != 0 {
-        return nothing;
-    }
+    let end = path_of(rt, place, &mut paths[from..to])?;
+    files.ends[place] = end;
     let past = from + end;
-    Opened {
-        fd: os::open_read(&paths[from..past]),
-        end,
-    }
+    files.opened[place] = Some(open_path(rt, &paths[from..past])?);
+    Ok(())
 }
 
 fn lesser(a: usize, b: usize) -> usize
@@ -124,71 +162,87 @@ fn lesser(a: usize, b: usize) -> usize
     if a < b { a } else { b }
 }
 
+// Reads into the first bytes of a part of the buffer, and answers how many they are.
+fn read_part<F: Read>(files: &mut Files<F>, place: usize, part: &mut [u8]) -> io::Result<usize>
+    ensures { IfOk result (λ n. n ≤ length part.new) }
+{
+    file_of(files, place)?.read(part)
+}
+
 // A part without room is no end of the file, and neither is a read that fails.
-fn read(fd: i32, from: usize, to: usize, buf: &mut [u8]) -> Event
+fn read<F: Read>(
+    files: &mut Files<F>,
+    place: usize,
+    from: usize,
+    to: usize,
+    buf: &mut [u8],
+) -> Event
     ensures { ShapedRead result from to buf.new × Outside from to buf.old buf.new }
 {
     let end = lesser(to, buf.len());
     if end <= from {
         return Event::Failed;
     }
-    let got = libc::read(fd, &mut buf[from..end]);
-    if got < 0 {
-        return Event::Failed;
+    match read_part(files, place, &mut buf[from..end]) {
+        Ok(0) => Event::End,
+        Ok(size) => Event::Read(size),
+        Err(reason) => {
+            files.reason = reason;
+            Event::Failed
+        }
     }
-    let size = io::count(got, &buf[from..end]);
-    if 0 < size {
-        return Event::Read(size);
-    }
-    Event::End
 }
 
-fn write(size: usize, out: &[u8]) -> Event
-    ensures { ShapedDone result }
-{
+fn write<R: Print>(rt: &R, size: usize, out: &[u8]) -> io::Result<()> {
     if out.len() < size {
-        return Event::Failed;
+        return Err(Error::from_raw_os_error(NOTHING_FAILED));
     }
-    done(io::write_all(libc::STDOUT_FILENO, &out[..size]))
+    rt.write_all(&out[..size])
 }
 
-fn rewind(fd: i32) -> Event
-    ensures { ShapedDone result }
-{
-    done(libc::lseek(fd, 0, libc::SEEK_SET) == 0)
+fn rewind<F: Seek>(files: &mut Files<F>, place: usize) -> io::Result<()> {
+    file_of(files, place)?.rewind()
 }
 
-fn told(files: Files, event: Event) -> Performed
+fn told<F>(files: Files<F>, event: Event) -> Performed<F>
     ensures { result.event ≡ event }
 {
     Performed { files, event }
 }
 
 // One action; `paths` has a slot of 4096 bytes for each argument's path.
-pub fn perform(
-    files: Files,
+pub fn perform<R: fs::Files + Env + Print>(
+    rt: &R,
+    mut files: Files<R::File>,
     action: Action,
     paths: &mut [u8],
     buf: &mut [u8],
     out: &[u8],
-) -> Performed
+) -> Performed<R::File>
     ensures { Shaped action result.event buf.old buf.new }
 {
     match action {
-        Action::Count => told(files, Event::Count(os::arg_count())),
-        Action::Argument(place) => told(files, argument(place, buf)),
+        Action::Count => told(files, Event::Count(count(rt))),
+        Action::Argument(place) => told(files, argument(rt, place, buf)),
         Action::Open(place) => {
-            let opened = open(place, paths);
-            told(
-                with_file(files, place, opened.fd, opened.end),
-                done(0 <= opened.fd),
-            )
+            let came = open(rt, &mut files, place, paths);
+            let event = done(&mut files, came);
+            told(files, event)
         }
         Action::Read(place, from, to) => {
-            told(files, read(descriptor(files, place), from, to, buf))
+            let event = read(&mut files, place, from, to, buf);
+            told(files, event)
         }
-        Action::Rewind(place) => told(files, rewind(descriptor(files, place))),
-        Action::Write(size) => told(files, write(size, out)),
+        Action::Rewind(place) => {
+            let came = rewind(&mut files, place);
+            let event = done(&mut files, came);
+            told(files, event)
+        }
+        Action::Write(size) => {
+            let came = write(rt, size, out);
+            let event = done(&mut files, came);
+            told(files, event)
+        }
         Action::Stop(_) => told(files, Event::Failed),
     }
 }
