@@ -9,8 +9,8 @@ use station_fields::control::{MAINTAIN, ON_LINE};
 use station_fields::field::Field;
 use station_fields::genset::{POINTS, SERVICE_INTERVAL, SERVICE_TIME};
 use station_fields::layout::{BATTERY_AT, CONTROL_AT, PAIR_SIZE, PAIRS, PAIRS_OFFSET};
-use words::masks::next_set;
 use std::io::Write;
+use words::masks::next_set;
 
 // The rows that are not told by their words, value and unit alone.
 const MAINTAIN_AT: usize = MAINTAIN.offset;

@@ -94,7 +94,10 @@ fn say_mask_fault<W: Write>(err: &mut W, mask: u64, setcount: usize) {
     say(err, b"check: station file, its mask is ");
     number(err, mask);
     if mask == 0 {
-        say(err, b" and so calls no set; right is a mask with at least one set that exists.\n");
+        say(
+            err,
+            b" and so calls no set; right is a mask with at least one set that exists.\n",
+        );
         return;
     }
     say_mask_rule(err, setcount);
@@ -103,5 +106,9 @@ fn say_mask_fault<W: Write>(err: &mut W, mask: u64, setcount: usize) {
 // 8
 pub fn say_configuration<W: Write>(err: &mut W, file: &[u8], configuration: u32) {
     say_wrong(err, b"check: station file, configuration ", configuration);
-    say_mask_fault(err, mask_at(file, from_zero(configuration)), setcount_of(file));
+    say_mask_fault(
+        err,
+        mask_at(file, from_zero(configuration)),
+        setcount_of(file),
+    );
 }

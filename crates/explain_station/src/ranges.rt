@@ -45,7 +45,15 @@ fn say_range<W: Write>(err: &mut W, least: u64, most: u64, unit: &[u8], more: &[
 }
 
 // Says of a row's number that is outside a range what it is and what would be right; of another, nothing.
-pub(crate) fn ask_row<W: Write>(err: &mut W, body: Body, row: Field, value: u64, least: u64, most: u64, more: &[u8]) {
+pub(crate) fn ask_row<W: Write>(
+    err: &mut W,
+    body: Body,
+    row: Field,
+    value: u64,
+    least: u64,
+    most: u64,
+    more: &[u8],
+) {
     if (least <= value) & (value <= most) {
         return;
     }
@@ -55,7 +63,14 @@ pub(crate) fn ask_row<W: Write>(err: &mut W, body: Body, row: Field, value: u64,
 }
 
 // The same of a number that has no row, by the words before it.
-pub(crate) fn ask<W: Write>(err: &mut W, words: &[u8], value: u64, least: u64, most: u64, unit: &[u8]) {
+pub(crate) fn ask<W: Write>(
+    err: &mut W,
+    words: &[u8],
+    value: u64,
+    least: u64,
+    most: u64,
+    unit: &[u8],
+) {
     if (least <= value) & (value <= most) {
         return;
     }
@@ -66,7 +81,10 @@ pub(crate) fn ask<W: Write>(err: &mut W, words: &[u8], value: u64, least: u64, m
 
 // After a mask with a set that does not exist.
 pub(crate) fn say_mask_rule<W: Write>(err: &mut W, setcount: usize) {
-    say(err, b", a mask with a set that does not exist; right is a mask of sets 1 to ");
+    say(
+        err,
+        b", a mask with a set that does not exist; right is a mask of sets 1 to ",
+    );
     number(err, setcount as u64);
     say(err, b" alone, where bit 0 is set 1.\n");
 }

@@ -7,8 +7,8 @@ use station_fields::battery::{LEAST_CONTENT, MOST_CONTENT, START_CONTENT};
 use station_fields::control::{FILTER_K, MINIMUM_SECONDS, ON_LINE};
 use station_fields::field::Field;
 use station_fields::genset::{SERVICE_INTERVAL, SERVICE_TIME};
-use words::masks::existing_only;
 use std::io::Write;
+use words::masks::existing_only;
 
 // The rows that a rule over several numbers is asked of, and the numbers that it asks beside them.
 const ON_LINE_AT: usize = ON_LINE.offset;

@@ -1,0 +1,10 @@
+-- `explain_station::as_read::say_curve` is safe and ends. The points that are left fall.
+-- Assumes nothing.
+use Prim.Native.Nat.{◌-◌, ◌≤◌}
+use Rattle.explain_station.proofs.as_read.say_curve.Given as goal
+
+abbrev pub invariant-loop-place : goal.invariant-loop-place
+invariant-loop-place g l = l.place ≤ 5
+
+abbrev pub decreases-loop-place : goal.decreases-loop-place
+decreases-loop-place g l = 5 - l.place
