@@ -1,0 +1,50 @@
+-- `write_commaed` meets its contract. The invariant: the bytes before `at`, and the numbers so far, each with its comma, stand at the
+-- buffer's front. Assumes nothing.
+use Prim.Native.Nat.{ℕ, ◌<◌}
+use mathlib.Core.Path.{◌≡◌, refl}
+use mathlib.Core.List.{◌++◌}
+use native.Mathlib.Omega.{arith}
+use lib.ListN.{length, take, get_or}
+use lib.Seq.{take_all}
+use Rattle.rules.specs.Bytes.{comma}
+use Rattle.decimals.specs.Commaed.{ended, commaed}
+use Rattle.texts.proofs.Texts.{goes_on, from-here, stands}
+use Rattle.decimals.proofs.Lines.{length-ended, length-step, commaed-on, within}
+use Rattle.decimals.proofs.numbers.write_commaed.Goals as goal
+
+pub loop-i-init : goal.loop-i-init
+unfolding commaed
+loop-i-init c =
+    let s = c.before.before in
+    let a = s.args in
+    (omega arith, s.requires, refl, omega arith, omega (arith, s.requires), from-here a.buffer.now a.at (omega (arith, s.requires)))
+
+pub put_number-end-requires : goal.put_number-end-requires
+put_number-end-requires c =
+    let l = c.loop-i in
+    let a = c.args in
+    omega (arith, l.invariant.3, l.invariant.1, l.invariant.2, within a.numbers.now l.i c.loop-i-test.true)
+
+pub loop-i-preserved : goal.loop-i-preserved
+loop-i-preserved c =
+    let l = c.loop-i in
+    let a = c.args in
+    let p = c.put_number-end in
+    let x : ℕ = get_or a.numbers.now l.i 0 in
+    let less : l.i < length a.numbers.now = c.loop-i-test.true in
+    let room = within a.numbers.now l.i less in
+    let f = goes_on a.buffer.now (take a.at a.buffer.now ++ commaed (take l.i a.numbers.now)) (ended x comma) l.buffer _ l.end _ l.invariant.5 p.ensures.0 p.ensures.1 in (
+      omega arith,
+      l.invariant.1,
+      omega (arith, p.auto.buffer, l.invariant.2),
+      omega (arith, p.ensures.0, l.invariant.3, length-ended x comma, length-step a.numbers.now l.i less),
+      omega (arith, p.ensures.0, l.invariant.3, l.invariant.1, l.invariant.2, p.auto.buffer, length-ended x comma, room),
+      rw (commaed-on (take a.at a.buffer.now) a.numbers.now l.i less) at f,
+    )
+
+pub returns : goal.returns
+returns c =
+    let l = c.loop-i in
+    let a = c.args in
+    let whole : take l.i a.numbers.now ≡ a.numbers.now = take_all l.i a.numbers.now c.loop-i-test.false in
+    stands a.buffer.now (commaed a.numbers.now) l.buffer a.at l.end (omega (arith, l.invariant.1)) (rw whole at l.invariant.5)
