@@ -1,0 +1,7 @@
+-- `put_refused` meets its contract. Assumes nothing.
+use Rattle.rows.specs.AnswerLine.{refused_line}
+use Rattle.rows.proofs.run_lines.put_refused.Goals as goal
+
+pub returns : goal.returns
+unfolding refused_line
+returns c = rw (c.number_and_place-answer.ensures.0, c.number_and_place-answer.ensures.1) at c.put_refusal.ensures
