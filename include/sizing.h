@@ -21,9 +21,9 @@
  * Sets and masks: sets are counted from 1. A mask is a number whose bit 0 is set 1, bit 1 is set 2, up to bit 7 for set 8; so 5
  * names the sets 1 and 3. The capacity of a mask is the ratings of its sets, added up.
  *
- * To link (x86-64 Linux): `rt staticlib sizing` writes target/staticlib/libsizing.a, and then
+ * To link (x86-64 Linux): `bin/build sizing` writes crates/sizing/out/libsizing.a, and then
  *
- *     cc -std=c11 -Iinclude screen.c target/staticlib/libsizing.a -o screen
+ *     cc -std=c11 -Iinclude screen.c crates/sizing/out/libsizing.a -o screen
  *
  * with the archive after the files that call it. examples/sizing/sizing_example.c is a whole program.
  */

@@ -1,7 +1,7 @@
 #!/usr/bin/env python3
 """check_program.py
 
-Runs bin/check (`rt check check_files` builds what it runs) on good and bad files, and holds what it prints, what it says to the clerk
+Runs bin/check (`bin/build check_files` builds what it runs) on good and bad files, and holds what it prints, what it says to the clerk
 and its status to what document 01 asks: each refusal of a file once, its line on standard output and the place that the explanation
 has to name. The files are written to build/check-program.
 """
@@ -9,7 +9,7 @@ import filecmp, os, shutil, struct, subprocess, sys
 
 ROOT = os.path.dirname(os.path.dirname(os.path.abspath(__file__)))
 CHECK = os.path.join('bin', 'check')
-PROGRAM = os.path.join('target', 'bin', 'check_files')
+PROGRAM = os.path.join('crates', 'check_files', 'out', 'check_files')
 OUT = os.path.join('build', 'check-program')
 STATION_A = os.path.join('examples', 'station-a', 'station')
 SAMPLES_A = os.path.join('examples', 'station-a', 'samples.csv')
@@ -204,7 +204,7 @@ def check_streams():
 
 os.chdir(ROOT)
 if not os.path.exists(PROGRAM):
-    fail(PROGRAM, 'not built; rt check check_files builds it')
+    fail(PROGRAM, 'not built; bin/build check_files builds it')
 shutil.rmtree(OUT, ignore_errors=True)
 os.makedirs(OUT)
 check_copies()

@@ -1,7 +1,7 @@
 #!/usr/bin/env python3
 """compare_chunks.py REFERENCE GENERATE SEEDS COUNT
 
-Tests the streamed reader of sample files at chunks of many sizes, through target/staticlib/libtest_chunks.a (`rt staticlib test_chunks` writes
+Tests the streamed reader of sample files at chunks of many sizes, through crates/test_chunks/out/libtest_chunks.a (`bin/build test_chunks` writes
 it) and tests/chunked/chunked.h: first files with known answers, some of them at every size up to their own, then COUNT generated
 ones, good and damaged. Every answer must be the same at every size, and what the independent reference program answers: how many
 rows there are and the time of the last, and where they are few, each row; or the refusal and the rows before the refused line, all
@@ -15,7 +15,7 @@ from c_drivers import C11, fail, must, sanitizers
 from generated_cases import generated
 
 ROOT = os.path.dirname(os.path.dirname(os.path.abspath(__file__)))
-LIBRARY = os.path.join('target', 'staticlib', 'libtest_chunks.a')
+LIBRARY = os.path.join('crates', 'test_chunks', 'out', 'libtest_chunks.a')
 OUT = os.path.join('build', 'chunked')
 CASES = os.path.join(OUT, 'chunked_cases')
 SOURCES = ['tests/chunked/chunked_cases.c', 'tests/sizing/guarded.c', 'tests/sizing/case_text.c']
@@ -213,7 +213,7 @@ def main():
     seeds, count = sys.argv[3], int(sys.argv[4])
     os.chdir(ROOT)
     if not os.path.exists(LIBRARY):
-        fail('%s is not there; `rt staticlib test_chunks` writes it' % LIBRARY)
+        fail('%s is not there; `bin/build test_chunks` writes it' % LIBRARY)
     os.makedirs(OUT, exist_ok=True)
     must(C11 + ['-Itests/sizing'] + sanitizers(OUT) + SOURCES + [LIBRARY, '-o', CASES])
     hold_known(reference)

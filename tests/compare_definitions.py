@@ -28,69 +28,69 @@ def unfolded():
             m = re.match(r'unfoldable pub (\S+) :', line)
             if m:
                 names.append('%s.%s' % (mod, m.group(1)))
-    ieee = 'span climb size odd units round neg sum add mul div lt eq le ofInt ofBits ofFields toBits isNan'.split()
-    names += ['Ieee.' + n for n in ieee] + ['Count.ones', 'Count.onesIn', 'Count.trailingZeros']
+    ieee = 'span climb size odd units round neg sum add mul div lt eq le of_int of_bits of_fields to_bits is_nan'.split()
+    names += ['Ieee.' + n for n in ieee] + ['Count.ones', 'Count.ones_in', 'Count.count_trailing_zeros']
     return mods, names + ['Answered.' + n for n in re.findall(r'unfoldable pub (\S+) :', ANSWERED)]
 
 
 ANSWERED = '''-- How an answer is written down as numbers, for a comparison.
 use Prim.Native.Nat.{ℕ}
 use mathlib.Core.Bool.{Bool, true, false}
-use mathlib.Core.List.{List, [], _∷_, _++_}
+use mathlib.Core.List.{List, [], ◌∷◌, ◌++◌}
 use lib.ListN.{length, take}
-use lib.Ieee.{Float, binary64, toBits}
-use Rattle·rules.specs.declared.station.Station.{Station}
-use Rattle·rules.specs.declared.run.Mode.{Mode}
-use Rattle·rules.specs.declared.run.Mode.the-variants.{Off, Warming, On, Cooling, Service}
-use Rattle·rules.specs.declared.run.SetState.{SetState}
-use Rattle·rules.specs.declared.run.Held.{Held}
-use Rattle·rules.specs.declared.run.Held.the-variants.{Absent, At}
-use Rattle·rules.specs.declared.run.Totals.{Totals}
-use Rattle·rules.specs.declared.run.Run.{Run}
-use Rattle·rules.specs.declared.run.Step.{Step}
-use Rattle·rules.specs.declared.run.Inputs.{Inputs}
-use Rattle·rules.specs.Answers.{Answer, accepted, refused}
-use Rattle·rules.specs.Row.{rowText}
-use Rattle·rules.specs.Second.{second, recordHanded, bufferLeft, lengthAnswered}
+use lib.Ieee.{Float, binary64, to_bits}
+use Rattle.rules.specs.declared.station.Station.{Station}
+use Rattle.rules.specs.declared.run.Mode.{Mode}
+use Rattle.rules.specs.declared.run.Mode.TheVariants.{Off, Warming, On, Cooling, Service}
+use Rattle.rules.specs.declared.run.SetState.{SetState}
+use Rattle.rules.specs.declared.run.Held.{Held}
+use Rattle.rules.specs.declared.run.Held.TheVariants.{Absent, At}
+use Rattle.rules.specs.declared.run.Totals.{Totals}
+use Rattle.rules.specs.declared.run.Run.{Run}
+use Rattle.rules.specs.declared.run.Step.{Step}
+use Rattle.rules.specs.declared.run.Inputs.{Inputs}
+use Rattle.rules.specs.Answers.{Answer, accepted, refused}
+use Rattle.rules.specs.Row.{row_text}
+use Rattle.rules.specs.Second.{second, record_handed, buffer_left, length_answered}
 
 unfoldable pub amount : Answer ℕ → List ℕ
 amount (accepted v) = 1 ∷ v ∷ []
 amount (refused number place) = 0 ∷ number ∷ place ∷ []
 
-abbrev modeNumbers : Mode → List ℕ
-modeNumbers Off = 0 ∷ 0 ∷ []
-modeNumbers (Warming n) = 1 ∷ n ∷ []
-modeNumbers On = 2 ∷ 0 ∷ []
-modeNumbers (Cooling n) = 3 ∷ n ∷ []
-modeNumbers (Service n) = 4 ∷ n ∷ []
+abbrev mode_numbers : Mode → List ℕ
+mode_numbers Off = 0 ∷ 0 ∷ []
+mode_numbers (Warming n) = 1 ∷ n ∷ []
+mode_numbers On = 2 ∷ 0 ∷ []
+mode_numbers (Cooling n) = 3 ∷ n ∷ []
+mode_numbers (Service n) = 4 ∷ n ∷ []
 
-unfoldable pub bitsOf : Float → ℕ
-bitsOf x = toBits binary64 x
+unfoldable pub bits_of : Float → ℕ
+bits_of x = to_bits binary64 x
 
-unfoldable pub heldNumbers : Held → List ℕ
-heldNumbers Absent = 0 ∷ 0 ∷ []
-heldNumbers (At x) = 1 ∷ bitsOf x ∷ []
+unfoldable pub held_numbers : Held → List ℕ
+held_numbers Absent = 0 ∷ 0 ∷ []
+held_numbers (At x) = 1 ∷ bits_of x ∷ []
 
-unfoldable pub stateNumbers : SetState → List ℕ
-stateNumbers s = modeNumbers (s .mode) ++ (s .run ∷ s .clock ∷ s .starts ∷ s .stops ∷ s .energy ∷ s .fuel ∷ [])
+unfoldable pub state_numbers : SetState → List ℕ
+state_numbers s = mode_numbers s.mode ++ (s.run ∷ s.clock ∷ s.starts ∷ s.stops ∷ s.energy ∷ s.fuel ∷ [])
 
 unfoldable pub flat : List SetState → List ℕ
 flat [] = []
-flat (s ∷ ss) = stateNumbers s ++ flat ss
+flat (s ∷ ss) = state_numbers s ++ flat ss
 
-unfoldable pub runNumbers : Run → List ℕ
-runNumbers r =
-    (r .done ∷ r .store ∷ r .called ∷ r .since ∷ [])
-    ++ heldNumbers (r .setpoint)
-    ++ flat (r .sets)
-    ++ (r .totals .offered ∷ r .totals .load ∷ r .totals .shed ∷ r .totals .solar ∷ r .totals .charge ∷ r .totals .spill ∷ r .totals .give ∷ r .totals .diesel ∷ r .totals .unserved ∷ [])
-    ++ r .decided
+unfoldable pub run_numbers : Run → List ℕ
+run_numbers r =
+    (r.done ∷ r.store ∷ r.called ∷ r.since ∷ [])
+    ++ held_numbers r.setpoint
+    ++ flat r.sets
+    ++ (r.totals.offered ∷ r.totals.load ∷ r.totals.shed ∷ r.totals.solar ∷ r.totals.charge ∷ r.totals.spill ∷ r.totals.give ∷ r.totals.diesel ∷ r.totals.unserved ∷ [])
+    ++ r.decided
 
 -- the answer, the record handed back, and the buffer as it is left, which was lent full of zeros
-unfoldable pub callGives : Station → Run → Inputs → List ℕ → List (List ℕ)
-callGives st r x lent =
+unfoldable pub call_gives : Station → Run → Inputs → List ℕ → List (List ℕ)
+call_gives st r x lent =
     let a = second st r x (length lent) in
-    amount (lengthAnswered a) ∷ runNumbers (recordHanded r a) ∷ bufferLeft lent a ∷ []
+    amount (length_answered a) ∷ run_numbers (record_handed r a) ∷ buffer_left lent a ∷ []
 '''
 
 
@@ -98,7 +98,7 @@ def bytes_term(h):
     if h == '-':
         return '[]'
     b = bytes.fromhex(h)
-    return '(bytesOf %d 0x%s)' % (len(b), b[::-1].hex())
+    return '(bytes_of %d 0x%s)' % (len(b), b[::-1].hex())
 
 
 def nats(ns):
@@ -121,12 +121,12 @@ def station_case(case, answer):
     h, mask, power, which = case.split()
     check, share, rate = answer.split()
     s = bytes_term(h)
-    gives = ['refusal (stationCheck %s)' % s, 'amount (shareAsked %s %s %s %s)' % (s, mask, power, which), 'amount (rateAsked %s %s %s)' % (s, mask, power)]
+    gives = ['refusal (station_check %s)' % s, 'amount (share_asked %s %s %s %s)' % (s, mask, power, which), 'amount (rate_asked %s %s %s)' % (s, mask, power)]
     return lists(gives), lists([refusal(check), amount(share), amount(rate)])
 
 
 def sample_case(case, answer):
-    return lists(['refusal (sampleCheck %s)' % bytes_term(case.strip())]), lists([refusal(answer)])
+    return lists(['refusal (sample_check %s)' % bytes_term(case.strip())]), lists([refusal(answer)])
 
 
 def run_case(case, answer):
@@ -170,7 +170,7 @@ def run_term(n):
         states.append(record('mode run clock starts stops energy fuel', [m] + v))
     totals = record('offered load shed solar charge spill give diesel unserved', n.take(9))
     decided = nats(n.take(60))
-    held = '(At (ofBits binary64 %d))' % bits if tag else 'Absent'
+    held = '(At (of_bits binary64 %d))' % bits if tag else 'Absent'
     return record('done since called store setpoint sets decided totals', [done, since, called, store, held, lists(states), decided, totals])
 
 
@@ -183,31 +183,31 @@ def second_case(case, answer):
     row = b'' if row.strip() == '-' else bytes.fromhex(row.strip())
     left = row + bytes(room - len(row)) if room >= len(row) else row
     shown = [amount(what if what.startswith('refused') else what.split(',')[1]), nats(back.split()), bytes_term(left.hex() or '-')]
-    return 'callGives (%s) (%s) (%s) (replicate %d 0)' % (st, r, x, room), lists(shown)
+    return 'call_gives (%s) (%s) (%s) (replicate %d 0)' % (st, r, x, room), lists(shown)
 
 
 KINDS = {'stations': (station_case, 20), 'samples': (sample_case, 40), 'runs': (run_case, 2), 'seconds': (second_case, 10)}
 
 HEADER = '''use Prim.Native.Nat.{ℕ}
-use mathlib.Core.Path.{_≡_, refl}
-use mathlib.Core.List.{List, [], _∷_}
+use mathlib.Core.Path.{◌≡◌, refl}
+use mathlib.Core.List.{List, [], ◌∷◌}
 use lib.Ieee
-use lib.Ieee.{binary64, ofBits}
+use lib.Ieee.{binary64, of_bits}
 use lib.Count
 use lib.ListN.{replicate}
 %s
-use Rattle·compared·specs.specs.Answered
-use Rattle·compared·specs.specs.Answered.{amount, callGives}
-use Rattle·rules.specs.declared.run.Mode.the-variants.{Off, Warming, On, Cooling, Service}
-use Rattle·rules.specs.declared.run.Held.the-variants.{Absent, At}
-use Rattle·rules.specs.Bytes.{bytesOf}
-use Rattle·rules.specs.Answers.{refusal}
-use Rattle·rules.specs.Sizing.{stationCheck, sampleCheck, shareAsked, rateAsked}
-use Rattle·rules.specs.Run.{printed}
+use Rattle.compared.specs.Answered
+use Rattle.compared.specs.Answered.{amount, call_gives}
+use Rattle.rules.specs.declared.run.Mode.TheVariants.{Off, Warming, On, Cooling, Service}
+use Rattle.rules.specs.declared.run.Held.TheVariants.{Absent, At}
+use Rattle.rules.specs.Bytes.{bytes_of}
+use Rattle.rules.specs.Answers.{refusal}
+use Rattle.rules.specs.Sizing.{station_check, sample_check, share_asked, rate_asked}
+use Rattle.rules.specs.Run.{printed}
 '''
 
 EQUATION = '''
-pub case%(i)d : _≡_ {A = List (List ℕ)} (%(gives)s) %(shows)s
+pub case%(i)d : ◌≡◌ {A = List (List ℕ)} (%(gives)s) %(shows)s
 unfolding %(names)s
 case%(i)d = refl
 '''
@@ -244,11 +244,11 @@ def put(top, path, text):
 def write_repository(top, cases):
     """The crate of the equations, above a copy of `rules`; cases has a list for each kind."""
     mods, names = unfolded()
-    shutil.copytree(os.path.join(ROOT, 'crates', 'rules'), os.path.join(top, 'crates', 'rules'), ignore=shutil.ignore_patterns('must-fail'))
+    shutil.copytree(os.path.join(ROOT, 'crates', 'rules'), os.path.join(top, 'crates', 'rules'), ignore=shutil.ignore_patterns('must-fail', 'out'))
     put(top, 'crates.txt', 'rules:\ncompared: rules\n')
-    put(top, 'crates/compared/src/lib.rt', '// Nothing: the equations stand in specs/.\n')
+    put(top, 'crates/compared/src/lib.rt', '#![tactic(auto)]\n// Nothing: the equations stand in specs/.\n')
     put(top, 'crates/compared/specs/Answered.antt', ANSWERED)
-    header = HEADER % '\n'.join('use Rattle·rules.specs.%s' % m for m in mods)
+    header = HEADER % '\n'.join('use Rattle.rules.specs.%s' % m for m in mods)
     blocks = ['Answered']
     for kind, (term, size) in KINDS.items():
         for at in range(0, len(cases[kind]), size):
@@ -275,7 +275,7 @@ def main():
     top = tempfile.mkdtemp(prefix='definitions-')
     try:
         write_repository(top, cases)
-        got = subprocess.run(['rt', 'check', 'compared'], cwd=top, stdout=subprocess.PIPE, stderr=subprocess.STDOUT, text=True)
+        got = subprocess.run(['rt', 'check'], cwd=os.path.join(top, 'crates', 'compared'), stdout=subprocess.PIPE, stderr=subprocess.STDOUT, text=True)
     finally:
         if 'KEEP' in os.environ:
             print('kept: ' + top)

@@ -1,11 +1,11 @@
 #!/usr/bin/env python3
 """compare_runs.py REFERENCE GENERATE RUN SMALL SEEDS COUNT
 
-Runs the program RUN (target/bin/run_files, which `rt check run_files` builds) as a process on real files and compares what it prints
+Runs the program RUN (crates/run_files/out/run_files, which `bin/build run_files` builds) as a process on real files and compares what it prints
 byte for byte with what the independent reference program prints: first cases with known answers, then COUNT generated runs and a third
 as many others (sheets of all sizes, up to some 65,536 bytes; stations, half of them damaged), then sheets whose plain rows are cut by
 RUN's chunks at every place of a row, and at last runs of 100,000 seconds. The
-known ones, every tenth of the generated ones, each small damaged sheet and some long runs go through SMALL too (target/bin/test_run_small:
+known ones, every tenth of the generated ones, each small damaged sheet and some long runs go through SMALL too (crates/test_run_small/out/test_run_small:
 the same core, fed 11 bytes at a time and emptied by 256). Most print into a pipe; every twentieth and the long ones into a file. RUN
 and SMALL may be commands of several words.
 
@@ -354,7 +354,7 @@ def main():
     os.chdir(ROOT)
     for program in [run[0], small[0]]:
         if not os.access(program, os.X_OK):
-            fail('%s is not there; `rt check %s` builds it' % (program, os.path.basename(program)))
+            fail('%s is not there; `bin/build %s` builds it' % (program, os.path.basename(program)))
     shutil.rmtree(OUT, ignore_errors=True)
     os.makedirs(OUT)
     put(SAID, b'')

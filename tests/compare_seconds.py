@@ -1,7 +1,7 @@
 #!/usr/bin/env python3
 """compare_seconds.py REFERENCE GENERATE SEEDS COUNT
 
-Runs target/bin/test_second_cases (`rt check test_second_cases` builds it) on COUNT generated cases of one second, and compares each answer byte
+Runs crates/test_second_cases/out/test_second_cases (`bin/build test_second_cases` builds it) on COUNT generated cases of one second, and compares each answer byte
 for byte with that of the independent reference program: the row's length or the refusal, the record handed back, the row; and the rest of
 the lent buffer with what was lent. Says how many were accepted, how many met each refusal, and how many held a NaN or an infinity, and
 fails where one of them never was. The cases of tests/seconds have recorded answers, and are held against these.
@@ -16,7 +16,7 @@ from c_drivers import fail, must
 from generated_cases import generated
 
 ROOT = os.path.dirname(os.path.dirname(os.path.abspath(__file__)))
-PROGRAM = os.path.join('target', 'bin', 'test_second_cases')
+PROGRAM = os.path.join('crates', 'test_second_cases', 'out', 'test_second_cases')
 
 REFUSALS = ['refused,%d,0' % number for number in [19, 20, 23, 24, 25, 26]]
 HELD = ['held NaN', 'held infinity']
@@ -104,7 +104,7 @@ def main():
     seeds, count = sys.argv[3], int(sys.argv[4])
     os.chdir(ROOT)
     if not os.path.exists(PROGRAM):
-        fail('%s is not there; `rt check test_second_cases` builds it' % PROGRAM)
+        fail('%s is not there; `bin/build test_second_cases` builds it' % PROGRAM)
     hold_recorded()
     commands, cases = zip(*generated(generate, 'seconds', seeds, count))
     text = ''.join(case + '\n' for case in cases).encode()

@@ -1,7 +1,7 @@
 #!/usr/bin/env python3
 """compare_seconds_run.py REFERENCE COUNT
 
-Runs target/bin/measure_seconds (`rt check measure_seconds` builds it) for COUNT seconds on Station A and on a station of 8 sets and 64
+Runs crates/measure_seconds/out/measure_seconds (`bin/build measure_seconds` builds it) for COUNT seconds on Station A and on a station of 8 sets and 64
 configurations, and compares its rows, which `steady::seconds` writes batch by batch, byte for byte with those that the independent
 reference program prints for a sheet of the same inputs. The calls of `dispatch::second`, one for each second, must come to the same:
 count and checksum of the rows' bytes, store, configuration called and fuel. Says what was met in the rows, and fails where one of it
@@ -14,7 +14,7 @@ from c_drivers import fail, must
 from speed_files import stations, write_sheet
 
 ROOT = os.path.dirname(os.path.dirname(os.path.abspath(__file__)))
-PROGRAM = os.path.join('target', 'bin', 'measure_seconds')
+PROGRAM = os.path.join('crates', 'measure_seconds', 'out', 'measure_seconds')
 OUT = os.path.join('build', 'seconds-run')
 
 COLUMNS = 't,load,shed,solar,charge,spill,give,diesel,unserved,on,sets,call,store'.split(',')
@@ -98,7 +98,7 @@ def main():
     reference, count = os.path.abspath(sys.argv[1]), int(sys.argv[2])
     os.chdir(ROOT)
     if not os.path.exists(PROGRAM):
-        fail('%s is not there; `rt check measure_seconds` builds it' % PROGRAM)
+        fail('%s is not there; `bin/build measure_seconds` builds it' % PROGRAM)
     os.makedirs(OUT, exist_ok=True)
     sheet = write_sheet(OUT, count)
     for name, path in stations(OUT):

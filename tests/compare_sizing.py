@@ -1,7 +1,7 @@
 #!/usr/bin/env python3
 """compare_sizing.py REFERENCE GENERATE SEEDS COUNT COUNT2
 
-Tests the C library of the sizing screen, target/staticlib/libsizing.a (`rt staticlib sizing` writes it), through include/sizing.h: the
+Tests the C library of the sizing screen, crates/sizing/out/libsizing.a (`bin/build sizing` writes it), through include/sizing.h: the
 header as C and as C++, the worked example, the known answers, and then COUNT generated stations with a question each and COUNT2
 generated sample files, which the library must answer byte for byte as the independent reference program does. Says how often each
 answer was met, and fails where one never was. The C programs are built into build/sizing; CC and CXX name other compilers.
@@ -13,7 +13,7 @@ from c_drivers import C11, CC, WARNINGS, fail, must, run, sanitizers
 from generated_cases import generated
 
 ROOT = os.path.dirname(os.path.dirname(os.path.abspath(__file__)))
-LIBRARY = os.path.join('target', 'staticlib', 'libsizing.a')
+LIBRARY = os.path.join('crates', 'sizing', 'out', 'libsizing.a')
 OUT = os.path.join('build', 'sizing')
 STATION_A = os.path.join('examples', 'station-a', 'station')
 CXX = os.environ.get('CXX', 'c++')
@@ -107,7 +107,7 @@ def main():
     reference, generate = map(os.path.abspath, sys.argv[1:3])
     os.chdir(ROOT)
     if not os.path.exists(LIBRARY):
-        fail('%s is not there; `rt staticlib sizing` writes it' % LIBRARY)
+        fail('%s is not there; `bin/build sizing` writes it' % LIBRARY)
     os.makedirs(OUT, exist_ok=True)
     build()
     try_example()

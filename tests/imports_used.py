@@ -14,11 +14,11 @@ POSITION = re.compile(r'^-- src/[\w/]+\.rt:\d+:\d+$', re.M)
 
 def is_used(name, body, words):
     """whether a name, or each part of an operator, stands in the body"""
-    if name in ('[]', '_∷_'):
+    if name in ('[]', '◌∷◌'):
         return '[' in body or '∷' in body
-    if name in ('_>>=_', '_>>_') and re.search(r'\bdo\b', body):
+    if name in ('◌>>=◌', '◌>>◌') and re.search(r'\bdo\b', body):
         return True
-    parts = [part for part in name.strip('«»').split('_') if part]
+    parts = [part for part in name.strip('«»').split('◌') if part]
     return all(part in words if re.fullmatch(r"[\w'-]+", part) else part in body for part in parts)
 
 
@@ -39,7 +39,7 @@ def faults_of(text):
 
 def must_tell():
     cases = [
-        ('use M.{a, _+_, [], «in»}\nuse M.N as n\nf : a\nf = x + n.g in []', 0), ('use M.{a}\n-- a\nb = c', 1), ('use M.{_≡_}\nb = c', 1),
+        ('use M.{a, ◌+◌, [], «in»}\nuse M.N as n\nf : a\nf = x + n.g in []', 0), ('use M.{a}\n-- a\nb = c', 1), ('use M.{◌≡◌}\nb = c', 1),
         ('use M.N as n\nm = n', 1), ('ghost use M.{a, b};\nfn f() ensures { a }', 1), ('-- src/x.rt:1:2\na = b', 1),
     ]
     for text, faults in cases:

@@ -1,7 +1,7 @@
 #!/usr/bin/env python3
 """judge_runs.py REFERENCE GENERATE RUN SEEDS COUNT
 
-Judges demand 3 from a second side. The program RUN (target/bin/run_files, which `rt check run_files` builds; it may be a command of
+Judges demand 3 from a second side. The program RUN (crates/run_files/out/run_files, which `bin/build run_files` builds; it may be a command of
 several words) runs as a process on real files: COUNT generated runs, of which some are damaged and refused; half as many good ones with
 short services, small sets and a store that fills and empties; and some stations and sheets of the speed tests. What it prints goes to
 `REFERENCE batch exercised`, the judge that replays modes, clocks and setpoint from station, samples and rows alone: each text must hold.
@@ -178,7 +178,7 @@ def main():
     seeds, count = sys.argv[4], int(sys.argv[5])
     os.chdir(ROOT)
     if not os.access(run[0], os.X_OK):
-        fail('%s is not there; `rt check %s` builds it' % (run[0], os.path.basename(run[0])))
+        fail('%s is not there; `bin/build %s` builds it' % (run[0], os.path.basename(run[0])))
     shutil.rmtree(OUT, ignore_errors=True)
     os.makedirs(OUT)
     tally = Tally(reference, sum(map(int, seeds.split(','))))

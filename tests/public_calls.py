@@ -92,25 +92,25 @@ def sources():
 
 def must_tell():
     """wrong sources, each with what has to be told of it"""
-    right = 'pub fn twice(x: u32) -> u64\n    ensures { λ r. ⌜ r ≡ 2 * x ⌝ }\n{\n    2 * (x as u64)\n}\n'
+    right = 'pub fn twice(x: u32) -> u64\n    ensures { result ≡ 2 * x }\n{\n    2 * (x as u64)\n}\n'
     table = {'c::m::twice': ['x']}
     cases = [
         (right, table, []),
-        ('pub(crate) fn own(x: u32) -> u32\n    requires { ⌜ x < 9 ⌝ }\n{\n    x\n}\n', {}, []),
+        ('pub(crate) fn own(x: u32) -> u32\n    requires { x < 9 }\n{\n    x\n}\n', {}, []),
         ('pub fn say(text: &[u8]) {\n}\n', {'c::m::say': ['text']}, []),
-        (right.replace('    ensures', '    requires { ⌜ x < 9 ⌝ }\n    ensures'), table, ['c::m::twice has a `requires`']),
+        (right.replace('    ensures', '    requires { x < 9 }\n    ensures'), table, ['c::m::twice has a `requires`']),
         ('pub fn twice(x: u32) -> u64 {\n    2 * (x as u64)\n}\n', table, ['c::m::twice has no `ensures`']),
         ('pub fn fill(out: &mut [u8]) {\n}\n', {'c::m::fill': ['out']}, ['c::m::fill has no `ensures`']),
         ('pub fn fill(out: &mut [u8])\n{\n    ensures();\n}\n', {'c::m::fill': ['out']}, ['c::m::fill has no `ensures`']),
         # a clause over two lines hides none after it, braces in a clause are the clause's, and a lifetime hides no function
-        (right.replace('2 * x ⌝ }', '2\n        * x ⌝ }\n    requires { ⌜ x < 9 ⌝ }'), table, ['c::m::twice has a `requires`']),
-        (right.replace('r ≡ 2 * x', 'r ≡ record { v = x } .v'), table, []),
+        (right.replace('2 * x }', '2\n        * x }\n    requires { x < 9 }'), table, ['c::m::twice has a `requires`']),
+        (right.replace('result ≡ 2 * x', 'result ≡ (record { v = x }).v'), table, []),
         ("pub fn part<'a>(s: &'a [u8]) -> &'a [u8] {\n    s\n}\n", {'c::m::part': ['s']}, ['c::m::part has no `ensures`']),
         ("pub fn fill<'a>(out: &'a mut [u8]) {\n}\n", {'c::m::fill': ['out']}, ['c::m::fill has no `ensures`']),
         (right, {}, ['c::m::twice is not in the table of public calls']),
         (right, {'c::m::twice': ['y']}, ['c::m::twice has the parameters (x), and (y) in the table of public calls']),
         ('', table, ['c::m::twice is in the table of public calls, and no public function']),
-        ('#[no_mangle]\npub extern "C" fn c_share(a: u64,\n    b: u64) -> u64 {\n    a\n}\n', {'c_share': ['a', 'b']}, ['c_share has no `ensures`']),
+        ('#[unsafe(no_mangle)]\npub extern "C" fn c_share(a: u64,\n    b: u64) -> u64 {\n    a\n}\n', {'c_share': ['a', 'b']}, ['c_share has no `ensures`']),
     ]
     for text, listed, told in cases:
         if faults_of(public_functions('c::m', text), listed) != told:

@@ -1,7 +1,7 @@
 #!/usr/bin/env python3
 """run_program.py
 
-Runs bin/run (`rt check run_files test_run_small` builds what it runs) on good and bad files, and holds its standard output to document 01 byte
+Runs bin/run (`bin/build run_files test_run_small` builds what it runs) on good and bad files, and holds its standard output to document 01 byte
 for byte, what it says on standard error to the words that a clerk needs, and its status to both. Then what lies around the rules: files
 that cannot be opened, read or read twice, output that is not taken, a sample file that changes between the two passes, progress on a
 terminal, and memory. The files are written to build/run-program.
@@ -13,8 +13,8 @@ from c_drivers import C11, must
 
 ROOT = os.path.dirname(os.path.dirname(os.path.abspath(__file__)))
 RUN = os.path.join('bin', 'run')
-PROGRAM = os.path.join('target', 'bin', 'run_files')
-SMALL = os.path.join('target', 'bin', 'test_run_small')
+PROGRAM = os.path.join('crates', 'run_files', 'out', 'run_files')
+SMALL = os.path.join('crates', 'test_run_small', 'out', 'test_run_small')
 OUT = os.path.join('build', 'run-program')
 STATION_A, SAMPLES_A, ROWS_A = (os.path.join('examples', 'station-a', name) for name in ('station', 'samples.csv', 'rows.csv'))
 HEADINGS = b't,LoadP,PvAvailP,ShedLoadP\n'
@@ -380,7 +380,7 @@ def check_memory():
 os.chdir(ROOT)
 for program in (PROGRAM, SMALL):
     if not os.path.exists(program):
-        fail(program, 'not built; rt check run_files test_run_small builds it')
+        fail(program, 'not built; bin/build run_files test_run_small builds it')
 shutil.rmtree(OUT, ignore_errors=True)
 os.makedirs(OUT)
 check_copies()

@@ -1,6 +1,6 @@
 """The files of the runs that bench/second and bench/run measure and compare_seconds_run.py and compare_runs.py compare.
 
-For bench/second: two stations, and the sheet of the inputs that target/bin/measure_seconds works with. The formulas are those of
+For bench/second: two stations, and the sheet of the inputs that crates/measure_seconds/out/measure_seconds works with. The formulas are those of
 crates/measure_seconds/src/inputs.rt, which follow from the second's number. For bench/run: a station of four sets, and sheets of its days
 with a row a second and with a row an hour."""
 import os, struct

@@ -24,7 +24,7 @@ def read(path):
 def declared_logic(text):
     """what a file of definitions or proofs declares: what stands first on a line, after the words of a declaration"""
     found = re.findall(r"^\s*(?:(?:pub|abbrev|unfoldable|record|data|module|mod)\s+)*(%s)(?=[\s:.]|$)" % NAME, text, re.M)
-    return set(found) | set(re.findall(r'^\s*(?:pub )?(_\S+_) :', text, re.M))
+    return set(found) | set(re.findall(r'^\s*(?:pub )?(◌\S+◌) :', text, re.M))
 
 
 def declared_code(text):
@@ -129,13 +129,13 @@ def faults_of(found, page):
 
 def must_tell():
     """each kind of name, right and wrong"""
-    logic = {'rules': {'Flows': {'floorLoad'}}, 'words': {'Laws': {'the-law'}}}
+    logic = {'rules': {'Flows': {'floor_load'}}, 'words': {'Laws': {'the-law'}}}
     code = {'rules': {}, 'words': {'masks': {'next_set'}}}
     made = [collections.defaultdict(lambda: collections.defaultdict(set), {c: collections.defaultdict(set, f) for c, f in of.items()})
             for of in (logic, code, {'words': {'an_edit': {'an_edit'}}})]
     found = Sources(*made, set(), ROOT)
     cases = [
-        ('`Flows.floorLoad`, `words Laws.the-law`, `words::masks::next_set(mask)`, `words an_edit`, `floorLoad`, `statement_names.py`, `docs/`', 0),
+        ('`Flows.floor_load`, `words Laws.the-law`, `words::masks::next_set(mask)`, `words an_edit`, `floor_load`, `statement_names.py`, `docs/`', 0),
         ('`Flows.floorload`', 1), ('`words Laws.law`', 1), ('`rules Laws.the-law`', 1), ('`Laws.the-law`', 0),
         ('`words::masks::next`', 1), ('`words other_edit`', 1), ('`gone an_edit`', 1), ('`gone`', 1), ('`docs/GONE.md`', 1), ('`gone(mask)`', 1),
     ]

@@ -5,9 +5,9 @@
  * that share; or why the library refuses. A refusal is an answer too: the exit status is 0. A wrong call or a file that cannot be
  * read is a message on standard error and exit status 2. To build and run it, from the repository's top folder:
  *
- *     rt staticlib sizing
+ *     bin/build sizing
  *     mkdir -p build
- *     cc -std=c11 -Iinclude examples/sizing/sizing_example.c target/staticlib/libsizing.a -o build/sizing_example
+ *     cc -std=c11 -Iinclude examples/sizing/sizing_example.c crates/sizing/out/libsizing.a -o build/sizing_example
  *     build/sizing_example examples/station-a/station 3 25000
  */
 #include <errno.h>
