@@ -1,0 +1,33 @@
+-- `station::bodies::sets_of` meets its contract. Assumes nothing.
+use borrow.Author.Rules.{rules}
+use Prim.Native.Nat.{ℕ, ◌*◌}
+use mathlib.Core.Path.{◌≡◌, sym, ap, ◌∙◌}
+use mathlib.Core.List.{List}
+use native.Mathlib.Omega.{arith}
+use lib.ListN.{drop}
+use lib.Seq.{drop-drop}
+use Rattle.rules.specs.Bytes.{littles}
+use Rattle.rules.specs.StationRecord.{no_set}
+use Rattle.rules.specs.StationFile.{set_of, sets_of}
+use Rattle.rules.proofs.StationRead.{length-sets_of}
+use Rattle.station.proofs.Reading.{sets_more, row-turn}
+use Rattle.station.proofs.bodies.sets_of.Goals as goal
+
+pub loop-i-init : goal.loop-i-init
+unfolding sets_of
+loop-i-init c = (omega arith, search rules, search rules, rw c.no_set-none.ensures)
+
+pub loop-i-preserved : goal.loop-i-preserved
+loop-i-preserved c =
+    let at = c.before.before in
+    let a = at.args in
+    let s = a.s.now in
+    let i = at.loop-i.invariant in
+    let v = c.set_of-g.ensures ∙ ap (λ (l : List ℕ). set_of (littles 4 16 l)) (sym (drop-drop (64 * at.loop-i.i) 100 s)) in
+    (omega arith, i.1, i.2, rw (i.3, v) (row-turn (sets_of at.loop-i.i (drop 100 s)) _ _ no_set at.loop-i.i 8 (length-sets_of at.loop-i.i (drop 100 s)) (search rules) (sets_more at.loop-i.i (drop 100 s))))
+
+pub returns : goal.returns
+returns c =
+    let at = c.before in
+    let e : at.loop-i.i ≡ at.args.setcount = omega (arith, at.loop-i.invariant.0) in
+    rw e at at.loop-i.invariant.3
