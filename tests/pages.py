@@ -33,7 +33,7 @@ def faults_of(text, folder):
         if not link.startswith('http') and not is_there(link, folder):
             told.append('the link %s leads nowhere' % link)
     for path in re.findall(r'`([^`\n]+)`', text):
-        stands_for = re.search(r'\b(X|CRATE|NAME|NNN)\b', path)  # in the place of any name
+        stands_for = re.search(r'\b(X|CRATE|NAME|NNN)\b|/out/', path)  # in the place of any name, or what a build makes
         if path.startswith(FOLDERS) and re.fullmatch(r'[\w./*-]+( .*)?', path) and not stands_for and not (
                 is_there(path, '.') or is_there(path, folder)):
             told.append('%s is not there' % path)
