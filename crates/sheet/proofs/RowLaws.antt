@@ -3,8 +3,6 @@ use Prim.Native.Nat.{ℕ, suc, ◌≤◌, ◌<◌}
 use mathlib.Core.Path.{◌≡◌, refl, ap, subst, ◌∙◌}
 use mathlib.Core.List.{List, [], ◌∷◌}
 use native.Mathlib.Omega.{arith}
-use types.Run.{OneOf, miss}
-use denote.Enum.Declared.{tag_of}
 use borrow.Author.Tests.{eq-eqb, ne_eqb, le-leb, lt-leb}
 use Rattle.rules.specs.declared.samples.Sample.{Sample}
 use Rattle.rules.specs.Numbers.{tab}
@@ -16,7 +14,6 @@ use Rattle.sheet.specs.declared.numbers.CellValue.TheVariants.{Value, Malformed,
 use Rattle.sheet_headings.specs.Headings.{columns_of}
 use Rattle.sheet.specs.Cells.{cell_of}
 use Rattle.sheet.specs.Rows.{cell_refusal, power_columns, sample_under, row_of_values, row_of_cells}
-use Rattle.sheet.specs.contracts.numbers.CellValue.{the_type}
 
 -- ---- the value of the first column after the time's that has a name
 
@@ -79,8 +76,8 @@ module _ (c : Columns) (line : ℕ) (vs : List ℕ) (r : Sample) (is : r ≡ sam
 -- ---- 18 and 19, of the cells
 
 -- a cell that has no value refuses the row, whatever follows it
-pub no_value : (line : ℕ) (v : CellValue) {A : Type 0} (f : ℕ → Answer A) → OneOf (1 ∷ 2 ∷ []) (tag_of the_type v) → refusal_of (cell_refusal line v) ≡ (cell_of line v >>= f)
-no_value line (Value v) f k = absurd (miss (1 ∷ 2 ∷ []) 0 tt k)
+pub no_value : (line : ℕ) (v : CellValue) {A : Type 0} (f : ℕ → Answer A) → ((x : ℕ) → v ≡ Value x → ⊥) → refusal_of (cell_refusal line v) ≡ (cell_of line v >>= f)
+no_value line (Value v) f k = absurd (k v refl)
 no_value line Malformed f k = refl
 no_value line OverLimit f k = refl
 
@@ -108,7 +105,7 @@ module _ (c : Columns) (line : ℕ) (first second third fourth : List ℕ) where
   one_by_one = flat (cell line limits 0 first) (cell line limits c.second second) (cell line limits c.third third) (cell line limits c.fourth fourth) (row_of_values c line)
 
   abbrev NoValue : CellValue → Type 0
-  NoValue v = OneOf (1 ∷ 2 ∷ []) (tag_of the_type v)
+  NoValue v = (x : ℕ) → v ≡ Value x → ⊥
 
   abbrev Read : CellValue → ℕ → List ℕ → Type 0
   Read v name part = (line : ℕ) → cell_of line v ≡ cell line limits name part

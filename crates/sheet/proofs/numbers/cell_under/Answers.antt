@@ -4,9 +4,7 @@ use mathlib.Core.Path.{◌≡◌, refl, ◌∙◌}
 use mathlib.Core.List.{List}
 use native.Mathlib.Omega.{arith}
 use Rattle.rules.specs.SampleFile.{sample_sheet, time_cell, power_cell, cell}
-use borrow.Author.Rules.{rules}
-use Rattle.sheet.proofs.numbers.cell_under.Statement.{statement}
-use Rattle.sheet.proofs.numbers.cell_under.Tie as tie
+use Rattle.sheet.proofs.numbers.cell_under.Goals as goal
 
 module _ (line : ℕ) (s : List ℕ) where
   time-under : (name : ℕ) → name ≡ 0 → time_cell line 316_223_999 s ≡ cell line sample_sheet.limits name s
@@ -30,24 +28,11 @@ module _ (line : ℕ) (s : List ℕ) where
   power-beyond (suc (suc (suc zero))) h = absurd (omega arith)
   power-beyond (suc (suc (suc (suc name)))) h = refl
 
-time-requires : tie.Need-time-requires
-time-requires c κs = search rules
+pub returns-then-name-eq0 : goal.returns-then-name-eq0
+returns-then-name-eq0 c = λ line. c.time.ensures line ∙ time-under line _ _ c.if-name-eq0.true
 
-returns : tie.Need-returns
-returns c = λ line. c.time.ensures line ∙ time-under line _ _ c.before.if1.true
+pub returns-then-name-le3 : goal.returns-then-name-le3
+returns-then-name-le3 c = λ line. c.power.ensures line ∙ power-under line _ _ c.if-name-eq0.false c.if-name-le3.true
 
-power-requires : tie.Need-power-requires
-power-requires c κs = search rules
-
-returns-2 : tie.Need-returns-2
-returns-2 c = λ line. c.power.ensures line ∙ power-under line _ _ c.before.before.if1.false c.before.if2.true
-
-power-requires-2 : tie.Need-power-requires-2
-power-requires-2 c κs = search rules
-
-returns-3 : tie.Need-returns-3
-returns-3 c = λ line. c.power2.ensures line ∙ power-beyond line _ _ c.before.if2.false
-
-pub cell-under-spec : {M : Type 1} → statement M
-cell-under-spec =
-    tie.close (tie.spec time-requires returns power-requires returns-2 power-requires-2 returns-3)
+pub returns : goal.returns
+returns c = λ line. c.power-2.ensures line ∙ power-beyond line _ _ c.if-name-le3.false
