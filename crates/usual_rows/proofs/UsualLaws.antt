@@ -3,7 +3,7 @@ use Rattle.std.proofs.Common.{◌≡◌, ℕ, zero, suc, ◌+◌, ◌-◌, ◌*�
 use lib.Seq.{take-append_seam}
 use Rattle.byte_search.specs.Bytes.{index_after, index_of}
 use Rattle.rules.specs.declared.samples.Sample.{Sample}
-use Rattle.rules.specs.Numbers.{if◌then◌else◌, every, within, tab}
+use Rattle.rules.specs.Numbers.{if◌then◌else◌, every, tab}
 use Rattle.rules.specs.Bytes.{LF, comma, point, digit0, is_digit, all_digits, digits, value_from, value, in_front, parts}
 use Rattle.rules.specs.Lines.{ended}
 use Rattle.rules.specs.Answers.{Answer, accepted, need, ◌>>=◌, ◌>>◌}
