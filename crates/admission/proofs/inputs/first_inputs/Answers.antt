@@ -5,9 +5,7 @@ use mathlib.Core.List.{List, [], ◌∷◌}
 use native.Mathlib.Omega.{arith}
 use lib.ListN.{length, get_or}
 use Rattle.admission.specs.Admission.{first_inputs}
-use borrow.Author.Rules.{rules}
-use Rattle.admission.proofs.inputs.first_inputs.Statement.{statement}
-use Rattle.admission.proofs.inputs.first_inputs.Tie as tie
+use Rattle.admission.proofs.inputs.first_inputs.Goals as goal
 
 none_first : (l : List ℕ) → length l < 3 → record { load = 0; solar = 0; sheddable = 0 } ≡ first_inputs l
 none_first [] h = refl
@@ -21,22 +19,8 @@ some_first (a ∷ []) h = absurd (omega arith)
 some_first (a ∷ b ∷ []) h = absurd (omega arith)
 some_first (a ∷ b ∷ c ∷ l) h = refl
 
-returns : tie.Need-returns
-returns c = none_first c.before.args.inputs.now c.if1.true
+pub returns-then-inputs-lt-SECOND_INPUTS : goal.returns-then-inputs-lt-SECOND_INPUTS
+returns-then-inputs-lt-SECOND_INPUTS c = none_first c.args.inputs.now c.if-inputs-lt-SECOND_INPUTS.true
 
-shared-slice-read-t5 : tie.Need-shared-slice-read-t5
-shared-slice-read-t5 c = search rules
-
-shared-slice-read-t7 : tie.Need-shared-slice-read-t7
-shared-slice-read-t7 c = search rules
-
-shared-slice-read-t9 : tie.Need-shared-slice-read-t9
-shared-slice-read-t9 c = search rules
-
-returns-2 : tie.Need-returns-2
-returns-2 c = some_first c.before.before.before.before.args.inputs.now c.before.before.before.if1.false
-
-pub first-inputs-spec : {M : Type 1} → statement M
-first-inputs-spec =
-    tie.close
-    (tie.spec returns shared-slice-read-t5 shared-slice-read-t7 shared-slice-read-t9 returns-2)
+pub returns : goal.returns
+returns c = some_first c.args.inputs.now c.if-inputs-lt-SECOND_INPUTS.false
