@@ -1,0 +1,27 @@
+-- `rows_in_force::in_force::reach` meets its contract: the row in force and the rows to come are those of the call, held as they were. Assumes nothing.
+use mathlib.Core.Path.{ap}
+use native.Mathlib.Omega.{arith}
+use Rattle.sheet_stages.specs.ToCome.{is_row}
+use Rattle.rows_in_force.proofs.HeldLaws.{reaching-start, reaching-more, not-reached, reached}
+use Rattle.rows_in_force.proofs.in_force.reach.Goals as goal
+
+pub loop-known-init : goal.loop-known-init
+loop-known-init c = λ now ahead at least is. reaching-start _ c.args.line.now now ahead _ c.args.chunk.now at _ _ least is
+
+pub returns-in_default : goal.returns-in_default
+returns-in_default c =
+    let a = c.args in
+    not-reached a.told.begun a.line.now _ _ _ _ _ _ _ _ (c.loop-known.invariant a.told.now a.told.ahead a.told.next c.lesser-next.ensures c.comes_in-known.ensures) c.next_row-further.result c.next_row-further.ensures c.loop-known-test.true c.in_default.is
+
+pub loop-known-smaller : goal.loop-known-smaller
+loop-known-smaller c = let o = c.next_row-further.ensures.onward (ap is_row c.in-Row.is) in omega (arith, o, c.next_row-further.ensures.within)
+
+pub loop-known-preserved : goal.loop-known-preserved
+loop-known-preserved c =
+    let a = c.args in
+    λ now ahead at least is. reaching-more a.told.begun a.line.now now ahead _ _ at _ _ _ (c.loop-known.invariant now ahead at least is) c.next_row-further.result c.next_row-further.ensures c.loop-known-test.true _ _ c.in-Row.is c.comes_in-known-in-loop-known.ensures
+
+pub returns : goal.returns
+returns c =
+    let a = c.args in
+    reached a.told.begun a.line.now _ _ _ _ _ _ _ _ (c.loop-known.invariant a.told.now a.told.ahead a.told.next c.lesser-next.ensures c.comes_in-known.ensures) c.loop-known-test.false
