@@ -118,12 +118,12 @@ pub admits-after : {st : Station} {r : Run} {xs : List Inputs} (n : ℕ) → Adm
 unfolding run_after
 admits-after zero h l = h
 admits-after (suc n) none l = absurd (omega arith)
-admits-after (suc n) (more h rest) l = admits-after n rest (omega arith)
+admits-after {st = st} {r = r} (suc n) (more {x = x} {xs = xs} h rest) l = admits-after {r = (step st r x).run} n rest (omega arith)
 
 pub admits-first : {st : Station} {r : Run} {xs : List Inputs} (n : ℕ) → Admits st r xs → Admits st r (take n xs)
 admits-first zero h = none
 admits-first (suc n) none = none
-admits-first (suc n) (more h rest) = more h (admits-first n rest)
+admits-first {st = st} {r = r} (suc n) (more {x = x} {xs = xs} h rest) = more h (admits-first {r = (step st r x).run} n rest)
 
 -- work on the first m of them is work on all
 pub works-within : {st : Station} {r : Run} {xs : List Inputs} {lent : List ℕ} {n : ℕ} {r' : Run} {rows : List ℕ} (m : ℕ) → Admits st r xs → Works st r (take m xs) lent n r' rows → Works st r xs lent n r' rows
