@@ -1,0 +1,11 @@
+-- `opened` meets its contract. Assumes nothing.
+use mathlib.Core.Path.{sym, ap, ◌∙◌}
+use mathlib.Core.Bool.{Bool}
+use Rattle.judging.specs.Stages.{opened_by}
+use Rattle.judging.proofs.judge.opened.Goals as goal
+
+pub returns-then-held : goal.returns-then-held
+returns-then-held c = c.moved.ensures ∙ ap (λ (b : Bool). opened_by b c.args.event c.args.held) (sym c.if-held.true)
+
+pub returns : goal.returns
+returns c = c.moved-2.ensures ∙ ap (λ (b : Bool). opened_by b c.args.event c.args.held) (sym c.if-held.false)

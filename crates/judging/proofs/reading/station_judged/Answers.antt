@@ -1,0 +1,10 @@
+-- `station_judged` meets its contract. Assumes nothing.
+use Rattle.judging.proofs.StationLaws.{station-refused, station-accepted}
+use mathlib.Core.Path.{sym, ◌∙◌}
+use Rattle.judging.proofs.reading.station_judged.Goals as goal
+
+pub returns-then-is_station_refused : goal.returns-then-is_station_refused
+returns-then-is_station_refused c = station-refused c.args.held (sym c.is_station_refused.ensures ∙ c.if-is_station_refused.true)
+
+pub returns : goal.returns
+returns c = station-accepted c.args.held
