@@ -8,10 +8,10 @@ mod turns;
 use crate::end_words::say_end;
 use crate::turns::run;
 
-fn main() {
+fn main(rt: HostRuntime) {
     let mut paths = [0u8; 12288];
-    let mut space = io::large_buffer();
+    let mut space = [0u8; 65536];
     let mut room = [0u8; 256];
-    let ended = run(&mut paths, &mut space, &mut room);
-    say_end(ended, &paths);
+    let ended = run(&rt, &mut paths, &mut space, &mut room);
+    say_end(&rt, ended, &paths);
 }

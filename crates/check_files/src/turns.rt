@@ -7,15 +7,15 @@ use exchange::action::{Action, Why, Word};
 use perform::{Files, no_files, perform};
 
 // What the machine ended with, and where it and the files then stood.
-#[derive(Clone, Copy)]
+#[derive(Drop)]
 pub(crate) struct Ended {
     pub(crate) word: Word,
     pub(crate) machine: Machine,
     pub(crate) files: Files,
 }
 
-// Progress is told before the action, since telling it sets the system's reason. So many turns no program comes to.
-pub(crate) fn run(paths: &mut [u8], buf: &mut [u8], out: &mut [u8]) -> Ended {
+// Progress is told before the action. So many turns no program comes to.
+pub(crate) fn run(rt: &HostRuntime, paths: &mut [u8], buf: &mut [u8], out: &mut [u8]) -> Ended {
     let mut told = 0;
     let mut machine = begin();
     let mut files = no_files();
@@ -30,8 +30,8 @@ pub(crate) fn run(paths: &mut [u8], buf: &mut [u8], out: &mut [u8]) -> Ended {
                 files,
             };
         }
-        told = tell_progress(told, machine);
-        let performed = perform(files, action, paths, buf, out);
+        told = tell_progress(rt, told, machine);
+        let performed = perform(rt, files, action, paths, buf, out);
         files = performed.files;
         let event = performed.event;
         machine = next(machine, event, buf, out);

@@ -8,6 +8,7 @@ ghost use Rattle.exchange.specs.World.{Outside};
 use exchange::action::Action;
 use exchange::event::Event;
 use std::env::{Env, FillError};
+use std::fs::File;
 use std::io::{Error, Read, Seek};
 use std::{fs, io};
 
@@ -31,14 +32,14 @@ const NO_TEXT: i32 = 84;
 
 // Of each argument its file, where one is open, and how many bytes of its slot its path has; and the system's reason for what failed last.
 #[derive(Drop)]
-pub struct Files<F> {
+pub struct Files<F = File> {
     opened: [Option<F>; 8],
     ends: [usize; 8],
     reason: Error,
 }
 
 #[derive(Drop)]
-pub struct Performed<F> {
+pub struct Performed<F = File> {
     pub files: Files<F>,
     pub event: Event,
 }

@@ -6,51 +6,59 @@ use files::source::Program;
 use files::why::say_why;
 use perform::Files;
 use plain_words::texts::say;
+use std::fs;
+use std::io::Write;
 
 // The place of the sample file among the arguments.
 const SAMPLES: usize = 2;
 
-// The descriptor that bin/run reads the word from.
-const TOLD_ON: i32 = 3;
+// The descriptor that bin/run reads the word from, by its path.
+const TOLD_ON: &str = "/dev/fd/3";
 
 // A read that fails once rows were written leaves rows without an end.
-fn say_unfinished(why: Why, working: bool) {
+fn say_unfinished<W: Write>(err: &mut W, why: Why, working: bool) {
     if let Why::Unread(place) = why {
         if working & (place == SAMPLES) {
-            say(b"run: the rows are not to be used.\n");
+            say(err, b"run: the rows are not to be used.\n");
         }
     }
 }
 
-fn say_nothing(why: Why, working: bool, files: Files, paths: &[u8]) {
-    say_why(Program::Run, why, files, paths);
-    say_unfinished(why, working);
+fn say_nothing<W: Write>(err: &mut W, why: Why, working: bool, files: &Files, paths: &[u8]) {
+    say_why(err, Program::Run, why, files, paths);
+    say_unfinished(err, why, working);
 }
 
-fn say_word(word: Word, working: bool, files: Files, paths: &[u8]) {
+fn say_word<W: Write>(err: &mut W, word: Word, working: bool, files: &Files, paths: &[u8]) {
     match word {
         Word::Complete => {}
-        Word::Refused(refusal) => say_refusal(refusal),
-        Word::Nothing(why) => say_nothing(why, working, files, paths),
+        Word::Refused(refusal) => say_refusal(err, refusal),
+        Word::Nothing(why) => say_nothing(err, why, working, files, paths),
     }
 }
 
-fn tell(word: Word) {
+// Where the descriptor is not open, nobody is told.
+fn tell(rt: &HostRuntime, word: Word) {
+    if let Ok(mut told) = fs::OpenOptions::new().write(true).open(rt, TOLD_ON) {
+        say(&mut told, word_of(word));
+    }
+}
+
+fn word_of(word: Word) -> &'static [u8] {
     match word {
-        Word::Complete => io::write_all(TOLD_ON, b"complete\n"),
-        Word::Refused(_) => io::write_all(TOLD_ON, b"refused\n"),
-        Word::Nothing(_) => io::write_all(TOLD_ON, b"nothing\n"),
-    };
+        Word::Complete => b"complete\n",
+        Word::Refused(_) => b"refused\n",
+        Word::Nothing(_) => b"nothing\n",
+    }
 }
 
 // The word for bin/run comes last.
-pub(crate) fn say_end(ended: Ended, paths: &[u8]) {
+pub(crate) fn say_end(rt: &HostRuntime, ended: Ended, paths: &[u8]) {
     let word = ended.word;
-    let files = ended.files;
     let machine = ended.machine;
     let held = machine.held;
-    say_word(word, held.working, files, paths);
+    say_word(&mut rt.stderr(), word, held.working, &ended.files, paths);
     if held.told {
-        tell(word);
+        tell(rt, word);
     }
 }

@@ -3,8 +3,8 @@ use crate::end_words::say_end;
 use crate::turns::run;
 
 // The whole program; `buf` is read into, at least 10 bytes at a time, and `out` written from, at least 256 bytes.
-pub fn run_program(buf: &mut [u8], out: &mut [u8]) {
+pub fn run_program(rt: &HostRuntime, buf: &mut [u8], out: &mut [u8]) {
     let mut paths = [0u8; 12288];
-    let ended = run(&mut paths, buf, out);
-    say_end(ended, &paths);
+    let ended = run(rt, &mut paths, buf, out);
+    say_end(rt, ended, &paths);
 }

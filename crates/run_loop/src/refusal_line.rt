@@ -4,27 +4,31 @@ use refusal_words::places::{Place, place_of, say_place};
 use refusal_words::refused::say_refused;
 use refusal_words::titles::say_title;
 use rules::answers::Refusal;
+use std::io::Write;
 
-fn say_check() {
-    say(b"run: bin/check STATION SAMPLES says what stands there and what would be right.\n");
+fn say_check<W: Write>(err: &mut W) {
+    say(
+        err,
+        b"run: bin/check STATION SAMPLES says what stands there and what would be right.\n",
+    );
 }
 
 // `check` is handed both files, and no seconds.
-fn say_more(place: Place) {
+fn say_more<W: Write>(err: &mut W, place: Place) {
     match place {
-        Place::StationFile | Place::Entry(_) | Place::Set(_) => say_check(),
-        Place::Configuration(_) | Place::SampleFile | Place::Line(_) => say_check(),
+        Place::StationFile | Place::Entry(_) | Place::Set(_) => say_check(err),
+        Place::Configuration(_) | Place::SampleFile | Place::Line(_) => say_check(err),
         Place::Seconds | Place::Call => {}
     }
 }
 
-pub(crate) fn say_refusal(refusal: Refusal) {
+pub(crate) fn say_refusal<W: Write>(err: &mut W, refusal: Refusal) {
     let place = place_of(refusal);
-    say(b"run: ");
-    say_refused(refusal, place);
-    say_place(place);
-    say(b": ");
-    say_title(refusal);
-    say(b".\n");
-    say_more(place);
+    say(err, b"run: ");
+    say_refused(err, refusal, place);
+    say_place(err, place);
+    say(err, b": ");
+    say_title(err, refusal);
+    say(err, b".\n");
+    say_more(err, place);
 }
