@@ -123,5 +123,8 @@ pub fn say_first_time<W: Write>(err: &mut W, line: u64, text: &[u8]) {
 // Where the file cannot be read a second time, as a pipe cannot.
 pub fn say_unseen<W: Write>(err: &mut W, line: u64) {
     say_line(err, line);
-    say(err, b" is wrong; its text cannot be shown, since the file could not be read a second time.\n");
+    say(
+        err,
+        b" is wrong; its text cannot be shown, since the file could not be read a second time.\n",
+    );
 }

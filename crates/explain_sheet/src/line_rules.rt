@@ -19,7 +19,10 @@ pub fn say_heading_rule<W: Write>(err: &mut W) {
         err,
         b"check: right is: the first line has the headings t first, then LoadP, PvAvailP and ShedLoadP once each in any order",
     );
-    say(err, b", with a comma between them and no other heading, space or quote.\n");
+    say(
+        err,
+        b", with a comma between them and no other heading, space or quote.\n",
+    );
 }
 
 // 17
@@ -68,5 +71,8 @@ pub fn say_first_time_rule<W: Write>(err: &mut W) {
 
 // 22
 pub fn say_row_rule<W: Write>(err: &mut W) {
-    say(err, b"check: right is: at least one row after the heading line, the first at the time 0.\n");
+    say(
+        err,
+        b"check: right is: at least one row after the heading line, the first at the time 0.\n",
+    );
 }

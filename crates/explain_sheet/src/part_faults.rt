@@ -106,7 +106,13 @@ fn say_what<W: Write>(err: &mut W, fault: PartFault, size: usize, place: usize) 
 }
 
 // The line as it was found in the file, with the heading line, which is the line itself where a heading is wrong.
-pub fn say_part_fault<W: Write>(err: &mut W, fault: PartFault, line: u64, headings: &[u8], text: &[u8]) {
+pub fn say_part_fault<W: Write>(
+    err: &mut W,
+    fault: PartFault,
+    line: u64,
+    headings: &[u8],
+    text: &[u8],
+) {
     let place = first_fault(fault, headings, text);
     if parts_of(text) <= place {
         return;
