@@ -1,0 +1,9 @@
+-- `lines_in` meets its contract. Assumes nothing.
+use Rattle.check_machine.proofs.StepLaws.{line-found, line-awaited}
+use Rattle.check_machine.proofs.lines.lines_in.Goals as goal
+
+pub returns-then-line : goal.returns-then-line
+returns-then-line c = line-found c.args.refusal _
+
+pub returns : goal.returns
+returns c = line-awaited c.args.refusal _

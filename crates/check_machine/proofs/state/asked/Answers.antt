@@ -1,0 +1,24 @@
+-- `asked` meets its contract. Assumes nothing.
+
+use Rattle.check_machine.proofs.state.asked.Goals as goal
+
+pub returns-in-Counting : goal.returns-in-Counting
+returns-in-Counting c = rw c.in-Counting.is
+
+pub returns-in-Judging : goal.returns-in-Judging
+returns-in-Judging c = rw c.in-Judging.is c.judge_asks.ensures
+
+pub returns-in-Answer : goal.returns-in-Answer
+returns-in-Answer c = rw c.in-Answer.is
+
+pub returns-in-LineAnswer : goal.returns-in-LineAnswer
+returns-in-LineAnswer c = rw c.in-LineAnswer.is
+
+pub returns-in-ToLines : goal.returns-in-ToLines
+returns-in-ToLines c = rw c.in-ToLines.is
+
+pub returns-in-Lines : goal.returns-in-Lines
+returns-in-Lines c = rw c.in-Lines.is
+
+pub returns-in-Stop : goal.returns-in-Stop
+returns-in-Stop c = rw c.in-Stop.is
