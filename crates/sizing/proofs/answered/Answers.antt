@@ -1,0 +1,9 @@
+-- `sizing::answered` meets its contract. Assumes nothing.
+
+use Rattle.sizing.proofs.answered.Goals as goal
+
+pub returns-in-Value : goal.returns-in-Value
+returns-in-Value c = rw c.in-Value.is
+
+pub returns-in-Refused : goal.returns-in-Refused
+returns-in-Refused c = rw c.in-Refused.is c.refused.ensures

@@ -1,0 +1,22 @@
+-- `sizing::fuel::rate_asked` meets its contract. Assumes nothing.
+use mathlib.Core.Path.{◌∙◌}
+use Rattle.rules.specs.Sizing.{rate_asked}
+use Rattle.station.proofs.FileAnswers.{file-gives, record-right, file-refused}
+use Rattle.sizing.proofs.fuel.rate_asked.Goals as goal
+
+pub rate_of_station-requires : goal.rate_of_station-requires
+rate_of_station-requires c =
+    let s = c.args.s.now in
+    record-right s c.read_station-reading.result.verdict c.read_station-reading.ensures.verdict_value _ c.read_station-reading.ensures.station_value c.in-Accepted.is
+
+pub returns-in-Accepted : goal.returns-in-Accepted
+unfolding rate_asked
+returns-in-Accepted c =
+    let a = c.args in
+    c.rate_of_station.ensures ∙ rw (file-gives a.s.now c.read_station-reading.result.verdict c.read_station-reading.ensures.verdict_value _ c.read_station-reading.ensures.station_value c.in-Accepted.is)
+
+pub returns-in-Refused : goal.returns-in-Refused
+unfolding rate_asked
+returns-in-Refused c =
+    let a = c.args in
+    rw (file-refused a.s.now c.read_station-reading.result.verdict c.read_station-reading.ensures.verdict_value _ c.in-Refused.is)

@@ -1,0 +1,7 @@
+-- `sizing::sizing_share` meets its contract. Assumes nothing.
+use mathlib.Core.Path.{ap, ◌∙◌}
+use Rattle.sizing.specs.Screen.{screen_answer}
+use Rattle.sizing.proofs.sizing_share.Goals as goal
+
+pub returns : goal.returns
+returns c = c.answered.ensures ∙ ap screen_answer c.share_asked.ensures
