@@ -11,7 +11,14 @@ use rules::answers::Refusal;
 use std::io::Write;
 
 // The station file as far as it is held, with its size; and of the sample file the heading line and the refused line as they were found.
-pub fn say_fault<W: Write>(err: &mut W, refusal: Refusal, station: &[u8], size: usize, headings: &[u8], text: &[u8]) {
+pub fn say_fault<W: Write>(
+    err: &mut W,
+    refusal: Refusal,
+    station: &[u8],
+    size: usize,
+    headings: &[u8],
+    text: &[u8],
+) {
     match refusal {
         Refusal::StationSize => say_size(err, size),
         Refusal::ContentsEntry(entry) => say_entry(err, station, entry),
@@ -23,7 +30,13 @@ pub fn say_fault<W: Write>(err: &mut W, refusal: Refusal, station: &[u8], size: 
         Refusal::ConfigurationMask(configuration) => say_configuration(err, station, configuration),
         Refusal::LineLength(line) => say_long(err, line, text),
         Refusal::HeadingBlank(line) => say_part_fault(err, PartFault::Blank, line, headings, text),
-        Refusal::HeadingUnknown(line) => say_part_fault(err, PartFault::Unknown, line, headings, text),
+        Refusal::HeadingUnknown(line) => say_part_fault(
+            err,
+            PartFault::Unknown,
+            line,
+            headings,
+            text,
+        ),
         Refusal::HeadingTwice(line) => say_part_fault(err, PartFault::Twice, line, headings, text),
         Refusal::HeadingMissing(line) => say_missing(err, line, headings),
         Refusal::FirstHeading(line) => say_first_heading(err, line, headings),
