@@ -2,9 +2,8 @@
 ghost use Rattle.std.specs.Prelude.{◌≡◌, ◌+◌, ◌≤◌, length};
 
 use crate::answer::answer_case;
+use std::io::Read;
 use words::little::little;
-
-const CASE_BYTES: usize = 2808;
 
 const CASE_NUMBERS: usize = 351;
 
@@ -46,34 +45,33 @@ fn put_number(bytes: &mut [u8; 1136], at: usize, number: u64)
     }
 }
 
-fn write_numbers(answer: &[u64; 142]) {
+fn write_numbers(rt: &HostRuntime, answer: &[u64; 142]) {
     let mut bytes = [0u8; 1136];
     let mut i: usize = 0;
     while i < ANSWER_NUMBERS {
         put_number(&mut bytes, 8 * i, answer[i]);
         i += 1;
     }
-    io::write_all(libc::STDOUT_FILENO, &bytes);
+    let _ = rt.write_all(&bytes);
 }
 
 // The answer's numbers, and then all of the lent buffer, of which the comparison sees whether a byte beside the row has changed.
-fn answer_one(case: &[u8; 2808], lent: &mut [u8]) {
+fn answer_one(rt: &HostRuntime, case: &[u8; 2808], lent: &mut [u8]) {
     let long = long_of(case);
     let numbers = narrow_of(&long);
     let mut answer = [0u64; 142];
     answer_case(&numbers, &long, lent, &mut answer);
-    write_numbers(&answer);
-    io::write_all(libc::STDOUT_FILENO, lent);
+    write_numbers(rt, &answer);
+    let _ = rt.write_all(lent);
 }
 
-pub(crate) fn answer_all(case: &mut [u8; 2808], lent: &mut [u8]) {
+pub(crate) fn answer_all(rt: &HostRuntime, case: &mut [u8; 2808], lent: &mut [u8]) {
     let mut turns = u64::MAX;
     while turns > 0 {
         turns -= 1;
-        let got = io::read_full(libc::STDIN_FILENO, case);
-        if got < CASE_BYTES {
+        if rt.stdin().read_exact(case).is_err() {
             return;
         }
-        answer_one(case, lent);
+        answer_one(rt, case, lent);
     }
 }

@@ -9,8 +9,8 @@ mod station_case;
 
 use crate::cases::answer_all;
 
-fn main() {
+fn main(rt: HostRuntime) {
     let mut case = [0u8; 2808];
-    let mut lent = io::buffer();
-    answer_all(&mut case, &mut lent);
+    let mut lent = [0u8; 4096];
+    answer_all(&rt, &mut case, &mut lent);
 }

@@ -1,0 +1,11 @@
+-- `test_second_cases::answer::fill` is safe and ends. The buffer keeps its length; what is left of it falls. Assumes nothing.
+use Prim.Native.Nat.{◌-◌}
+use mathlib.Core.Path.{◌≡◌}
+use lib.ListN.{length}
+use Rattle.test_second_cases.proofs.answer.fill.Given as goal
+
+abbrev pub invariant-loop-i : goal.invariant-loop-i
+invariant-loop-i l = length l.lent ≡ length l.initial.lent
+
+abbrev pub decreases-loop-i : goal.decreases-loop-i
+decreases-loop-i l = length l.initial.lent - l.i
