@@ -1,5 +1,5 @@
 // The programs and the two files by their names, and what to say where a file cannot be opened or read.
-use crate::reason::fail;
+use plain_words::reasons::fail;
 use plain_words::shown::show_path;
 use plain_words::texts::say;
 use std::io::{Error, ErrorKind, Write};

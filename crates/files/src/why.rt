@@ -1,8 +1,8 @@
 // Why there is no complete answer, in plain words. The system's reason is the one of the call which failed, as the files keep it.
-use crate::reason::fail;
 use crate::source::{Program, say_call, say_name, say_reason, say_unopened, say_unread, say_which};
 use exchange::action::Why;
 use perform::{Files, path_end, reason};
+use plain_words::reasons::fail;
 use plain_words::shown::show_path;
 use plain_words::texts::say;
 use std::io::{Error, Write};

@@ -1,5 +1,5 @@
 // The system's reason for what failed, in its own words.
-use plain_words::texts::say;
+use crate::texts::say;
 use std::io::{Cursor, Error, Write};
 
 // What stands between a reason's words and its number.
@@ -20,7 +20,7 @@ fn say_words<W: Write>(err: &mut W, text: &[u8]) {
 }
 
 // A line with what failed, as the caller names it, a colon and the reason.
-pub(crate) fn fail<W: Write>(err: &mut W, what: &[u8], reason: Error) {
+pub fn fail<W: Write>(err: &mut W, what: &[u8], reason: Error) {
     let mut text = Cursor::new([0u8; 128]);
     let _ = write!(text, "{reason}");
     say(err, what);
