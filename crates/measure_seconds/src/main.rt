@@ -11,7 +11,9 @@ mod work;
 use crate::output::print_tally;
 use crate::source::station_bytes;
 use crate::work::{Tally, work_each, work_many};
-use check::same;
+use exchange::action::Action;
+use exchange::event::Event;
+use perform::{no_files, perform};
 use plain_words::numbers::number;
 use plain_words::texts::say;
 use records::start::start;
@@ -21,6 +23,8 @@ use rules::run::Run;
 use rules::station::Station;
 use sheet::numbers::{CellValue, time};
 use station::reader::read_station;
+use std::env::Env;
+use std::io::Write;
 use words::refusals::number_and_place;
 
 // How the seconds are worked.
@@ -38,112 +42,124 @@ enum Named {
     Unknown,
 }
 
-fn say_usage() {
+fn say_usage<W: Write>(err: &mut W) {
     say(
+        err,
         b"usage: measure_seconds each|many|rows STATION SECONDS (a number of 1 to 9 digits, at most 316224000)\n",
     );
 }
 
 fn way_of(word: &[u8]) -> Named {
-    if same(word, b"each") {
+    if word == b"each".as_slice() {
         return Named::As(Way::Each);
     }
-    if same(word, b"many") {
+    if word == b"many".as_slice() {
         return Named::As(Way::Many);
     }
-    if same(word, b"rows") {
+    if word == b"rows".as_slice() {
         return Named::As(Way::Rows);
     }
     Named::Unknown
 }
 
 // An argument that is too long for the buffer reads as an empty one, which is no word and no number here.
-fn way_asked() -> Named {
-    let mut word = io::buffer();
-    let end = os::arg(1, &mut word);
+fn way_asked(rt: &HostRuntime) -> Named {
+    let mut word = [0u8; 4096];
+    let end = rt.arg(1, &mut word).unwrap_or(0);
     way_of(&word[..end])
 }
 
-fn seconds_asked() -> CellValue {
-    let mut digits = io::buffer();
-    let end = os::arg(3, &mut digits);
+fn seconds_asked(rt: &HostRuntime) -> CellValue {
+    let mut digits = [0u8; 4096];
+    let end = rt.arg(3, &mut digits).unwrap_or(0);
     time(MOST_SECONDS, &digits[..end])
 }
 
-fn say_refusal(refusal: Refusal) {
+fn say_refusal<W: Write>(err: &mut W, refusal: Refusal) {
     let answer = number_and_place(refusal);
-    say(b" is refused with the number ");
-    number(answer.0);
-    say(b", place ");
-    number(answer.1);
-    say(b".\n");
+    say(err, b" is refused with the number ");
+    number(err, answer.0);
+    say(err, b", place ");
+    number(err, answer.1);
+    say(err, b".\n");
 }
 
 // Where the rows were shown, standard output has nothing else.
-fn report(tally: Tally, shown: bool) {
+fn report(rt: &HostRuntime, tally: Tally, shown: bool) {
     let verdict = tally.verdict;
     if let Verdict::Refused(refusal) = verdict {
-        say(b"measure_seconds: second ");
-        number(tally.seconds);
-        say_refusal(refusal);
+        let err = &mut rt.stderr();
+        say(err, b"measure_seconds: second ");
+        number(err, tally.seconds);
+        say_refusal(err, refusal);
         return;
     }
     if !shown {
-        print_tally(tally);
+        print_tally(rt, tally);
     }
 }
 
-fn work_batches(st: Station, run: Run, asked: u32, shown: bool) {
-    let mut rows = io::large_buffer();
-    report(work_many(st, run, asked, shown, &mut rows), shown);
+fn work_batches(rt: &HostRuntime, st: Station, run: Run, asked: u32, shown: bool) {
+    let mut rows = [0u8; 65536];
+    report(rt, work_many(rt, st, run, asked, shown, &mut rows), shown);
 }
 
-fn work_station(way: Way, st: Station, asked: u32) {
+fn work_station(rt: &HostRuntime, way: Way, st: Station, asked: u32) {
     let started = start(st);
     let run = started.run;
     match way {
-        Way::Each => report(work_each(st, run, asked), false),
-        Way::Many => work_batches(st, run, asked, false),
-        Way::Rows => work_batches(st, run, asked, true),
+        Way::Each => report(rt, work_each(st, run, asked), false),
+        Way::Many => work_batches(rt, st, run, asked, false),
+        Way::Rows => work_batches(rt, st, run, asked, true),
     }
 }
 
-fn work_file(way: Way, asked: u32, file: &[u8]) {
+fn work_file(rt: &HostRuntime, way: Way, asked: u32, file: &[u8]) {
     let reading = read_station(file);
     let verdict = reading.verdict;
     if let Verdict::Refused(refusal) = verdict {
-        say(b"measure_seconds: the station file");
-        say_refusal(refusal);
+        let err = &mut rt.stderr();
+        say(err, b"measure_seconds: the station file");
+        say_refusal(err, refusal);
         return;
     }
     let st = reading.station;
-    work_station(way, st, asked);
+    work_station(rt, way, st, asked);
 }
 
-fn work_asked(way: Way, asked: u32, file: &mut [u8]) {
-    let got = station_bytes(file);
+fn work_asked(rt: &HostRuntime, way: Way, asked: u32, file: &mut [u8]) {
+    let got = station_bytes(rt, file);
     if got.failed {
         return;
     }
     let size = got.size;
-    work_file(way, asked, &file[..size]);
+    work_file(rt, way, asked, &file[..size]);
 }
 
-fn main() {
-    if os::arg_count() != 4 {
-        say_usage();
+// Whether there are as many arguments as the program has, its own name counted.
+fn is_called(rt: &HostRuntime) -> bool {
+    let counted = perform(rt, no_files(), Action::Count, &mut [], &mut [], b"");
+    if let Event::Count(count) = counted.event {
+        return count == 4;
+    }
+    false
+}
+
+fn main(rt: HostRuntime) {
+    if !is_called(&rt) {
+        say_usage(&mut rt.stderr());
         return;
     }
-    let named = way_asked();
+    let named = way_asked(&rt);
     let Named::As(way) = named else {
-        say_usage();
+        say_usage(&mut rt.stderr());
         return;
     };
-    let asked = seconds_asked();
+    let asked = seconds_asked(&rt);
     let CellValue::Value(seconds) = asked else {
-        say_usage();
+        say_usage(&mut rt.stderr());
         return;
     };
-    let mut file = io::buffer();
-    work_asked(way, seconds, &mut file);
+    let mut file = [0u8; 4096];
+    work_asked(&rt, way, seconds, &mut file);
 }

@@ -1,26 +1,36 @@
 // Standard output: the rows, or one line of what the seconds came to.
 use crate::row_bytes::checksum;
 use crate::work::Tally;
+use plain_words::reasons::fail;
 use rules::run::SetState;
+use std::io;
+use std::io::Error;
 
-fn say_unwritten() {
-    os::fail(b"measure_seconds: standard output cannot be written");
+fn say_unwritten(rt: &HostRuntime, reason: Error) {
+    fail(
+        &mut rt.stderr(),
+        b"measure_seconds: standard output cannot be written",
+        reason,
+    );
 }
 
 // Whether the first `size` bytes of a buffer were taken.
-pub(crate) fn wrote_start(buffer: &[u8], size: usize) -> bool {
+pub(crate) fn wrote_start(rt: &HostRuntime, buffer: &[u8], size: usize) -> bool {
     if buffer.len() < size {
         return false;
     }
-    if io::write_all(libc::STDOUT_FILENO, &buffer[..size]) {
-        return true;
+    match rt.write_all(&buffer[..size]) {
+        Ok(()) => true,
+        Err(reason) => {
+            say_unwritten(rt, reason);
+            false
+        }
     }
-    say_unwritten();
-    false
 }
 
-fn wrote_value(name: &[u8], value: u64) -> bool {
-    io::write_all(libc::STDOUT_FILENO, name) & io::print_decimal(libc::STDOUT_FILENO, value)
+fn write_value(rt: &HostRuntime, name: &[u8], value: u64) -> io::Result<()> {
+    rt.write_all(name)?;
+    rt.print(value)
 }
 
 // The sets' fuel together; where the sum wraps, a difference shows as well.
@@ -35,19 +45,22 @@ fn fuel_of(states: [SetState; 8]) -> u64 {
     fuel
 }
 
-pub(crate) fn print_tally(tally: Tally) {
+fn write_tally(rt: &HostRuntime, tally: Tally) -> io::Result<()> {
     let bytes = tally.bytes;
     let run = tally.run;
     let states = run.sets;
-    let wrote = wrote_value(b"seconds ", tally.seconds)
-        & wrote_value(b", bytes ", bytes.count)
-        & wrote_value(b", checksum ", checksum(bytes))
-        & wrote_value(b", done ", run.done as u64)
-        & wrote_value(b", store ", run.store)
-        & wrote_value(b", called ", run.called as u64)
-        & wrote_value(b", fuel ", fuel_of(states))
-        & io::write_all(libc::STDOUT_FILENO, b"\n");
-    if !wrote {
-        say_unwritten();
+    write_value(rt, b"seconds ", tally.seconds)?;
+    write_value(rt, b", bytes ", bytes.count)?;
+    write_value(rt, b", checksum ", checksum(bytes))?;
+    write_value(rt, b", done ", run.done as u64)?;
+    write_value(rt, b", store ", run.store)?;
+    write_value(rt, b", called ", run.called as u64)?;
+    write_value(rt, b", fuel ", fuel_of(states))?;
+    rt.write_all(b"\n")
+}
+
+pub(crate) fn print_tally(rt: &HostRuntime, tally: Tally) {
+    if let Err(reason) = write_tally(rt, tally) {
+        say_unwritten(rt, reason);
     }
 }

@@ -3,9 +3,11 @@ ghost use Rattle.std.specs.Prelude.{◌≤◌, length};
 
 use exchange::action::{Action, BUFFER_END};
 use exchange::event::Event;
-use perform::{Files, no_files, path_end, perform};
+use perform::{Files, no_files, path_end, perform, reason};
+use plain_words::reasons::fail;
 use plain_words::shown::show_path;
 use plain_words::texts::say;
+use std::io::{Error, ErrorKind, Write};
 
 // The place of the station file among the arguments, and of its path among the paths.
 const STATION: usize = 2;
@@ -19,21 +21,25 @@ pub(crate) struct Filled {
     pub(crate) failed: bool,
 }
 
-// The system's reason comes last, since it is that of the call which has just failed.
-fn say_of_file(path: &[u8], fault: &[u8]) {
-    say(b"measure_seconds: the station file ");
-    show_path(path);
-    say(fault);
-    os::fail(b"measure_seconds: the system's reason");
+// The system's reason comes last.
+fn say_of_file<W: Write>(err: &mut W, path: &[u8], fault: &[u8], reason: Error) {
+    say(err, b"measure_seconds: the station file ");
+    show_path(err, path);
+    say(err, fault);
+    fail(err, b"measure_seconds: the system's reason", reason);
 }
 
 // A path that is too long for the system was not kept.
-fn say_unopened(path: &[u8]) {
-    if (path.len() == 0) & (os::errno() == libc::ENAMETOOLONG) {
-        os::fail(b"measure_seconds: the station file's path cannot be used");
+fn say_unopened<W: Write>(err: &mut W, path: &[u8], reason: Error) {
+    if (path.len() == 0) & (reason.kind() == ErrorKind::InvalidFilename) {
+        fail(
+            err,
+            b"measure_seconds: the station file's path cannot be used",
+            reason,
+        );
         return;
     }
-    say_of_file(path, b" cannot be opened.\n");
+    say_of_file(err, path, b" cannot be opened.\n", reason);
 }
 
 fn is_failed(event: Event) -> bool {
@@ -46,49 +52,69 @@ fn is_failed(event: Event) -> bool {
     }
 }
 
+// What came of reading, and the files as they then are.
+#[derive(Drop)]
+struct Came {
+    filled: Filled,
+    files: Files,
+}
+
 // The start of the file that is open, as far as the buffer holds it.
-fn start_of(files: Files, paths: &mut [u8], file: &mut [u8]) -> Filled
-    ensures { result.size ≤ length file.new }
+fn start_of(rt: &HostRuntime, opened: Files, paths: &mut [u8], file: &mut [u8]) -> Came
+    ensures { result.filled.size ≤ length file.new }
 {
+    let mut files = opened;
     let mut size = 0;
     while size < file.len() {
         let action = Action::Read(STATION, size, BUFFER_END);
-        let performed = perform(files, action, paths, file, b"");
+        let performed = perform(rt, files, action, paths, file, b"");
+        files = performed.files;
         let event = performed.event;
         let Event::Read(count) = event else {
-            return Filled {
-                size,
-                failed: is_failed(event),
+            let failed = is_failed(event);
+            return Came {
+                filled: Filled { size, failed },
+                files,
             };
         };
         size += count;
     }
-    Filled {
-        size,
-        failed: false,
+    Came {
+        filled: Filled {
+            size,
+            failed: false,
+        },
+        files,
     }
 }
 
 // The start of the station file.
-pub(crate) fn station_bytes(file: &mut [u8]) -> Filled
+pub(crate) fn station_bytes(rt: &HostRuntime, file: &mut [u8]) -> Filled
     ensures { result.size ≤ length file.new }
 {
     let mut paths = [0u8; 12288];
-    let opened = perform(no_files(), Action::Open(STATION), &mut paths, file, b"");
+    let action = Action::Open(STATION);
+    let opened = perform(rt, no_files(), action, &mut paths, file, b"");
     let files = opened.files;
     let event = opened.event;
     let from = STATION_PATH;
-    let past = from + path_end(files, STATION);
+    let past = from + path_end(&files, STATION);
     if is_failed(event) {
-        say_unopened(&paths[from..past]);
+        say_unopened(&mut rt.stderr(), &paths[from..past], reason(&files));
         return Filled {
             size: 0,
             failed: true,
         };
     }
-    let got = start_of(files, &mut paths, file);
+    let came = start_of(rt, files, &mut paths, file);
+    let got = came.filled;
     if got.failed {
-        say_of_file(&paths[from..past], b" cannot be read.\n");
+        say_of_file(
+            &mut rt.stderr(),
+            &paths[from..past],
+            b" cannot be read.\n",
+            reason(&came.files),
+        );
     }
     got
 }

@@ -138,6 +138,7 @@ fn with_batch(before: Tally, worked: Worked, verdict: Verdict, text: &[u8], size
 
 // One batch after the other through the same rows and one buffer for their text; `shown` where it is written to standard output too.
 pub(crate) fn work_many(
+    rt: &HostRuntime,
     st: Station,
     first: Run,
     asked: u32,
@@ -159,7 +160,7 @@ pub(crate) fn work_many(
         let verdict = verdict_of(st, worked);
         tally = with_batch(tally, worked, verdict, text, size);
         if shown {
-            if !wrote_start(text, size) {
+            if !wrote_start(rt, text, size) {
                 return tally;
             }
         }
