@@ -15,9 +15,8 @@ use Rattle.decimals.proofs.numbers.write_commaed.Goals as goal
 pub loop-i-init : goal.loop-i-init
 unfolding commaed
 loop-i-init c =
-    let s = c.before.before in
-    let a = s.args in
-    (omega arith, s.requires, refl, omega arith, omega (arith, s.requires), from-here a.buffer.now a.at (omega (arith, s.requires)))
+    let a = c.args in
+    (omega arith, c.requires, refl, omega arith, omega (arith, c.requires), from-here a.buffer.now a.at (omega (arith, c.requires)))
 
 pub put_number-end-requires : goal.put_number-end-requires
 put_number-end-requires c =

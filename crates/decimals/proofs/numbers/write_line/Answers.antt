@@ -10,7 +10,7 @@ use Rattle.decimals.specs.Commaed.{ended, commaed}
 use Rattle.texts.proofs.Texts.{both-placed, tail-ended}
 use Rattle.decimals.proofs.Lines.{length-ended, line-last}
 use Rattle.decimals.proofs.numbers.write_line.Goals as goal
-use Rattle.decimals.proofs.numbers.write_line.Goals.{After-write_commaed-comma, Start}
+use Rattle.decimals.proofs.numbers.write_line.Goals.{After-write_commaed-comma}
 
 module _ (xs : List ℕ) (some : 1 ≤ length xs) where
   abbrev others : List ℕ
@@ -27,14 +27,11 @@ module _ (xs : List ℕ) (some : 1 ≤ length xs) where
 
 -- past the commas the last number has room, and LF after it
 module _ (c : After-write_commaed-comma) where
-  abbrev start : Start
-  start = c.before.before.before.before.before
-
   abbrev xs : List ℕ
-  xs = start.args.numbers.now
+  xs = c.args.numbers.now
 
-  room : c.write_commaed-comma.result + length (decimal (last xs start.requires.0)) < length c.write_commaed-comma.new.buffer
-  room = omega (arith, c.write_commaed-comma.ensures.0, c.write_commaed-comma.auto.buffer, parts-length xs start.requires.0, start.requires.1)
+  room : c.write_commaed-comma.result + length (decimal (last xs c.requires.0)) < length c.write_commaed-comma.new.buffer
+  room = omega (arith, c.write_commaed-comma.ensures.0, c.write_commaed-comma.auto.buffer, parts-length xs c.requires.0, c.requires.1)
 
 -- by way of the buffer as the first call leaves it
 as_long : {n k : ℕ} (m : ℕ) → m ≡ k → n ≡ m → n ≡ k
@@ -47,8 +44,7 @@ slice_bounds-write_commaed-end c =
 
 pub write_commaed-comma-requires : goal.write_commaed-comma-requires
 write_commaed-comma-requires c =
-    let s = c.before.before.before.before in
-    omega (arith, parts-length s.args.numbers.now s.requires.0, s.requires.1)
+    omega (arith, parts-length c.args.numbers.now c.requires.0, c.requires.1)
 
 pub slice_bounds-put_long_decimal-count : goal.slice_bounds-put_long_decimal-count
 slice_bounds-put_long_decimal-count c = omega (arith, room (goal.at.slice_bounds-put_long_decimal-count c).After-write_commaed-comma)
@@ -76,12 +72,12 @@ shape_of-buffer c =
 pub returns : goal.returns
 unfolding ended
 returns c =
-    let put = (goal.at.returns c).After-write_commaed-comma in
-    let s = start (goal.at.returns c).After-write_commaed-comma in
-    let l = s.args.buffer.now in
-    let some = s.requires.0 in
+    let at = (goal.at.returns c).After-write_commaed-comma in
+    let numbers = c.args.numbers.now in
+    let l = c.args.buffer.now in
+    let some = c.requires.0 in
     let p = c.put_long_decimal in
-    let told = put.write_commaed-comma.ensures in
-    let fits : s.args.at + length (commaed (others (xs (goal.at.returns c).After-write_commaed-comma) some)) ≤ length l = omega (arith, parts-length (xs (goal.at.returns c).After-write_commaed-comma) some, s.requires.1) in
-    let end = tail-ended put.write_commaed-comma.new.buffer put.write_commaed-comma.result _ LF _ (decimal (last (xs (goal.at.returns c).After-write_commaed-comma) some)) (room (goal.at.returns c).After-write_commaed-comma) p.ensures in
-    (omega (arith, told.0, p.ensures.0, parts-length (xs (goal.at.returns c).After-write_commaed-comma) some), both-placed l (commaed (others (xs (goal.at.returns c).After-write_commaed-comma) some)) (ended (last (xs (goal.at.returns c).After-write_commaed-comma) some) LF) (comma_line (xs (goal.at.returns c).After-write_commaed-comma)) _ _ s.args.at _ fits told.0 told.1 end (parts (xs (goal.at.returns c).After-write_commaed-comma) some))
+    let told = c.write_commaed-comma.ensures in
+    let fits : c.args.at + length (commaed (others numbers some)) ≤ length l = omega (arith, parts-length numbers some, c.requires.1) in
+    let end = tail-ended c.write_commaed-comma.new.buffer c.write_commaed-comma.result _ LF _ (decimal (last numbers some)) (room at) p.ensures in
+    (omega (arith, told.0, p.ensures.0, parts-length numbers some), both-placed l (commaed (others numbers some)) (ended (last numbers some) LF) (comma_line numbers) _ _ c.args.at _ fits told.0 told.1 end (parts numbers some))

@@ -36,7 +36,7 @@ returns c =
     let others = drop 8 (columns c.args.row) in
     let left = c.put_commaed-first.new.buffer in
     let front = put_front 168 (commaed first) lent _ left (omega (arith, c.if-buffer-lt-LEAST_ROW_BUFFER.false)) (rw c.numbers_of-numbers.ensures at c.put_commaed-first.ensures) in
-    let room : c.put_commaed-first.result + 105 ≤ length left = omega (arith, front.0, first_short c.before.before.before.before.before.before.before.before.before.before.before.before.before.before, c.put_commaed-first.auto.buffer, c.if-buffer-lt-LEAST_ROW_BUFFER.false) in
+    let room : c.put_commaed-first.result + 105 ≤ length left = omega (arith, front.0, first_short (goal.at.returns c).Start, c.put_commaed-first.auto.buffer, c.if-buffer-lt-LEAST_ROW_BUFFER.false) in
     let end = was-put 105 (comma_line others) c.put_commaed-first.result left room _ _ (rw c.numbers_of-numbers.ensures at c.put_numbers.ensures) in
     let whole : row_text c.args.row ≡ commaed first ++ comma_line others = line-parts first others (omega arith) in
     text-written (row_text c.args.row) lent _ _ c.if-buffer-lt-LEAST_ROW_BUFFER.false (rw whole (goes_on lent (commaed first) (comma_line others) left _ c.put_commaed-first.result _ front end.0 end.1))

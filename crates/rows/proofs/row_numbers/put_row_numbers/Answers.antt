@@ -12,6 +12,4 @@ returns-then-rows-lt-ROW_COLUMNS c = rw (lt-leb 13 (length c.args.rows.now) c.if
 pub returns : goal.returns
 unfolding row_first
 returns c =
-    let called = c.before.before in
-    let tested = called.before.before.before in
-    rw (le-leb 13 (length tested.args.rows.now) tested.if-rows-lt-ROW_COLUMNS.false) (called.put_columns.ensures ∙ rw called.numbers_of.ensures)
+    rw (le-leb 13 (length c.args.rows.now) c.if-rows-lt-ROW_COLUMNS.false) (c.put_columns.ensures ∙ rw c.numbers_of.ensures)

@@ -16,15 +16,13 @@ loop-i-init c = (omega arith, search rules, search rules, refl)
 
 pub loop-i-preserved : goal.loop-i-preserved
 loop-i-preserved c =
-    let at = c.before.before in
-    let a = at.args in
+    let a = c.args in
     let s = a.s.now in
-    let i = at.loop-i.invariant in
-    let v = byte_at s (a.at + 1 * at.loop-i.i) (omega (arith, i.2)) ∙ ap (little 1) (sym (drop-drop (1 * at.loop-i.i) a.at s)) in
-    (omega arith, i.1, i.2, rw (i.3, v) (row-turn (littles 1 at.loop-i.i (drop a.at s)) _ _ 0 at.loop-i.i 64 (length-littles 1 at.loop-i.i (drop a.at s)) (search rules) (littles-more 1 at.loop-i.i (drop a.at s))))
+    let i = c.loop-i.invariant in
+    let v = byte_at s (a.at + 1 * c.loop-i.i) (omega (arith, i.2)) ∙ ap (little 1) (sym (drop-drop (1 * c.loop-i.i) a.at s)) in
+    (omega arith, i.1, i.2, rw (i.3, v) (row-turn (littles 1 c.loop-i.i (drop a.at s)) _ _ 0 c.loop-i.i 64 (length-littles 1 c.loop-i.i (drop a.at s)) (search rules) (littles-more 1 c.loop-i.i (drop a.at s))))
 
 pub returns : goal.returns
 returns c =
-    let at = c.before in
-    let e : at.loop-i.i ≡ at.args.configcount = omega (arith, at.loop-i.invariant.0) in
-    rw e at at.loop-i.invariant.3
+    let e : c.loop-i.i ≡ c.args.configcount = omega (arith, c.loop-i.invariant.0) in
+    rw e at c.loop-i.invariant.3

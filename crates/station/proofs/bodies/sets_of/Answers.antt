@@ -19,15 +19,13 @@ loop-i-init c = (omega arith, search rules, search rules, rw c.no_set-none.ensur
 
 pub loop-i-preserved : goal.loop-i-preserved
 loop-i-preserved c =
-    let at = c.before.before in
-    let a = at.args in
+    let a = c.args in
     let s = a.s.now in
-    let i = at.loop-i.invariant in
-    let v = c.set_of-g.ensures ∙ ap (λ (l : List ℕ). set_of (littles 4 16 l)) (sym (drop-drop (64 * at.loop-i.i) 100 s)) in
-    (omega arith, i.1, i.2, rw (i.3, v) (row-turn (sets_of at.loop-i.i (drop 100 s)) _ _ no_set at.loop-i.i 8 (length-sets_of at.loop-i.i (drop 100 s)) (search rules) (sets_more at.loop-i.i (drop 100 s))))
+    let i = c.loop-i.invariant in
+    let v = c.set_of-g.ensures ∙ ap (λ (l : List ℕ). set_of (littles 4 16 l)) (sym (drop-drop (64 * c.loop-i.i) 100 s)) in
+    (omega arith, i.1, i.2, rw (i.3, v) (row-turn (sets_of c.loop-i.i (drop 100 s)) _ _ no_set c.loop-i.i 8 (length-sets_of c.loop-i.i (drop 100 s)) (search rules) (sets_more c.loop-i.i (drop 100 s))))
 
 pub returns : goal.returns
 returns c =
-    let at = c.before in
-    let e : at.loop-i.i ≡ at.args.setcount = omega (arith, at.loop-i.invariant.0) in
-    rw e at at.loop-i.invariant.3
+    let e : c.loop-i.i ≡ c.args.setcount = omega (arith, c.loop-i.invariant.0) in
+    rw e at c.loop-i.invariant.3

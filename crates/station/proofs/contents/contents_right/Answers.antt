@@ -48,14 +48,12 @@ returns-then-not-entry_right-4 c =
 
 pub returns-then-size-configs_at : goal.returns-then-size-configs_at
 returns-then-size-configs_at c =
-    let four = c.before.before in
     let s = c.args.s.now in
-    size-last s (search rules) (search rules) (first (goal.at.returns-then-size-configs_at c).Else-not-entry_right) (second (goal.at.returns-then-size-configs_at c).Else-not-entry_right-2) (third (goal.at.returns-then-size-configs_at c).Else-not-entry_right-3) (sym (fourth-is (goal.at.returns-then-size-configs_at c).After-entry_right-4) ∙ four.if-not-entry_right-4.false)
-    (ne_eqb (length s) (configs_offset (count_at s 2) + count_at s 3) (λ z. c.if-size-configs_at.true (z ∙ sym (size-by-counts s _ _ four.count_at.ensures.value c.count_at-2.ensures.value))))
+    size-last s (search rules) (search rules) (first (goal.at.returns-then-size-configs_at c).Else-not-entry_right) (second (goal.at.returns-then-size-configs_at c).Else-not-entry_right-2) (third (goal.at.returns-then-size-configs_at c).Else-not-entry_right-3) (sym (fourth-is (goal.at.returns-then-size-configs_at c).After-entry_right-4) ∙ c.if-not-entry_right-4.false)
+    (ne_eqb (length s) (configs_offset (count_at s 2) + count_at s 3) (λ z. c.if-size-configs_at.true (z ∙ sym (size-by-counts s _ _ c.count_at.ensures.value c.count_at-2.ensures.value))))
 
 pub returns : goal.returns
 returns c =
-    let four = c.before.before in
     let s = c.args.s.now in
-    contents-in-order s (search rules) (search rules) (first (goal.at.returns c).Else-not-entry_right) (second (goal.at.returns c).Else-not-entry_right-2) (third (goal.at.returns c).Else-not-entry_right-3) (sym (fourth-is (goal.at.returns c).After-entry_right-4) ∙ four.if-not-entry_right-4.false)
-    (eq-eqb (length s) (configs_offset (count_at s 2) + count_at s 3) (c.if-size-configs_at.false ∙ size-by-counts s _ _ four.count_at.ensures.value c.count_at-2.ensures.value))
+    contents-in-order s (search rules) (search rules) (first (goal.at.returns c).Else-not-entry_right) (second (goal.at.returns c).Else-not-entry_right-2) (third (goal.at.returns c).Else-not-entry_right-3) (sym (fourth-is (goal.at.returns c).After-entry_right-4) ∙ c.if-not-entry_right-4.false)
+    (eq-eqb (length s) (configs_offset (count_at s 2) + count_at s 3) (c.if-size-configs_at.false ∙ size-by-counts s _ _ c.count_at.ensures.value c.count_at-2.ensures.value))

@@ -7,32 +7,24 @@ use Rattle.station.proofs.reader.read_station.Goals as goal
 
 pub returns-in_default : goal.returns-in_default
 returns-in_default c =
-    let contents = c.before.before in
-    let s = contents.args.s.now in
-    let r = contents-refused s contents.contents_right-contents.result contents.contents_right-contents.ensures _ c.in_default.is in
+    let s = c.args.s.now in
+    let r = contents-refused s c.contents_right-contents.result c.contents_right-contents.ensures _ c.in_default.is in
     record { verdict_value = ap verdict_of c.refused.ensures.0 ∙ r.0; station_value = c.refused.ensures.1 ∙ r.1 }
 
 pub record_of-station-requires : goal.record_of-station-requires
 record_of-station-requires c =
-    let contents = c.before in
-    contents-passed contents.args.s.now _ contents.contents_right-contents.ensures c.in-Accepted.is
+    contents-passed c.args.s.now _ c.contents_right-contents.ensures c.in-Accepted.is
 
 pub returns-in_default-values : goal.returns-in_default-values
 returns-in_default-values c =
-    let values = c.before.before in
-    let told = values.before.before in
-    let contents = told.before in
-    let s = contents.args.s.now in
-    let w = values.values_right-values.ensures ∙ ap values_right values.record_of-station.ensures in
-    let r = values-refused s _ contents.contents_right-contents.ensures told.in-Accepted.is values.values_right-values.result w _ c.in_default-values.is in
+    let s = c.args.s.now in
+    let w = c.values_right-values.ensures ∙ ap values_right c.record_of-station.ensures in
+    let r = values-refused s _ c.contents_right-contents.ensures c.in-Accepted.is c.values_right-values.result w _ c.in_default-values.is in
     record { verdict_value = ap verdict_of c.refused-in_default-values.ensures.0 ∙ r.0; station_value = c.refused-in_default-values.ensures.1 ∙ r.1 }
 
 pub returns : goal.returns
 returns c =
-    let values = c.before in
-    let told = values.before.before in
-    let contents = told.before in
-    let s = contents.args.s.now in
-    let w = values.values_right-values.ensures ∙ ap values_right values.record_of-station.ensures in
-    let r = file-read s _ contents.contents_right-contents.ensures told.in-Accepted.is values.values_right-values.result w c.in-Accepted-values.is in
-    record { verdict_value = r.0; station_value = values.record_of-station.ensures ∙ r.1 }
+    let s = c.args.s.now in
+    let w = c.values_right-values.ensures ∙ ap values_right c.record_of-station.ensures in
+    let r = file-read s _ c.contents_right-contents.ensures c.in-Accepted.is c.values_right-values.result w c.in-Accepted-values.is in
+    record { verdict_value = r.0; station_value = c.record_of-station.ensures ∙ r.1 }

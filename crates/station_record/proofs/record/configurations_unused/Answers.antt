@@ -13,14 +13,12 @@ loop-i-init c = (search rules, refl)
 
 pub loop-i-preserved : goal.loop-i-preserved
 loop-i-preserved c =
-    let at = c.before in
-    let a = at.args in
-    let i = at.loop-i.invariant in
-    (i.0, every-turn (λ x. eqb x 0) a.configs at.loop-i.i (all_zero (drop a.from a.configs)) at.loop-i.ok i.1 0 _ (omega (arith, i.0)) refl)
+    let a = c.args in
+    let i = c.loop-i.invariant in
+    (i.0, every-turn (λ x. eqb x 0) a.configs c.loop-i.i (all_zero (drop a.from a.configs)) c.loop-i.ok i.1 0 _ (omega (arith, i.0)) refl)
 
 pub returns : goal.returns
 returns c =
-    let at = c.before in
-    let a = at.args in
-    let i = at.loop-i.invariant in
-    every-end (λ x. eqb x 0) a.configs at.loop-i.i (all_zero (drop a.from a.configs)) at.loop-i.ok i.1 (omega (arith, i.0))
+    let a = c.args in
+    let i = c.loop-i.invariant in
+    every-end (λ x. eqb x 0) a.configs c.loop-i.i (all_zero (drop a.from a.configs)) c.loop-i.ok i.1 (omega (arith, i.0))

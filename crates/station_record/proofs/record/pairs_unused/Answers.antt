@@ -12,14 +12,12 @@ loop-i-init c = (omega arith, search rules, refl)
 
 pub loop-i-preserved : goal.loop-i-preserved
 loop-i-preserved c =
-    let at = c.before in
-    let s = at.args.numbers in
-    let i = at.loop-i.invariant in
-    (omega arith, i.1, every-turn (λ x. eqb x 0) s at.loop-i.i (all_zero s) at.loop-i.ok i.2 0 _ (omega (arith, i.1)) refl)
+    let s = c.args.numbers in
+    let i = c.loop-i.invariant in
+    (omega arith, i.1, every-turn (λ x. eqb x 0) s c.loop-i.i (all_zero s) c.loop-i.ok i.2 0 _ (omega (arith, i.1)) refl)
 
 pub returns : goal.returns
 returns c =
-    let at = c.before in
-    let s = at.args.numbers in
-    let i = at.loop-i.invariant in
-    every-end (λ x. eqb x 0) s at.loop-i.i (all_zero s) at.loop-i.ok i.2 (omega (arith, i.1))
+    let s = c.args.numbers in
+    let i = c.loop-i.invariant in
+    every-end (λ x. eqb x 0) s c.loop-i.i (all_zero s) c.loop-i.ok i.2 (omega (arith, i.1))

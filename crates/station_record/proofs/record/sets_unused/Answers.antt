@@ -14,14 +14,12 @@ loop-i-init c = (search rules, refl)
 pub loop-i-preserved : goal.loop-i-preserved
 unfolding past_end
 loop-i-preserved c =
-    let at = c.before.before.before in
-    let a = at.args in
-    let i = at.loop-i.invariant in
-    (i.0, every-turn set_unused a.sets at.loop-i.i (every set_unused (drop a.from a.sets)) at.loop-i.ok i.1 past_end _ (omega (arith, i.0)) c.set_unused-ok.ensures)
+    let a = c.args in
+    let i = c.loop-i.invariant in
+    (i.0, every-turn set_unused a.sets c.loop-i.i (every set_unused (drop a.from a.sets)) c.loop-i.ok i.1 past_end _ (omega (arith, i.0)) c.set_unused-ok.ensures)
 
 pub returns : goal.returns
 returns c =
-    let at = c.before in
-    let a = at.args in
-    let i = at.loop-i.invariant in
-    every-end set_unused a.sets at.loop-i.i (every set_unused (drop a.from a.sets)) at.loop-i.ok i.1 (omega (arith, i.0))
+    let a = c.args in
+    let i = c.loop-i.invariant in
+    every-end set_unused a.sets c.loop-i.i (every set_unused (drop a.from a.sets)) c.loop-i.ok i.1 (omega (arith, i.0))

@@ -7,13 +7,8 @@ returns-then-not-setcount-configcount c = counts-first c.args.st c.if-not-setcou
 
 pub returns-in_default : goal.returns-in_default
 returns-in_default c =
-    let values = c.before in
-    let one = values.before in
-    values-next one.args.st one.if-not-setcount-configcount.false _ values.values_right-verdict.ensures _ c.in_default.is
+    values-next c.args.st c.if-not-setcount-configcount.false _ c.values_right-verdict.ensures _ c.in_default.is
 
 pub returns : goal.returns
 returns c =
-    let told = c.before.before.before.before in
-    let values = told.before in
-    let one = values.before in
-    unused-last one.args.st one.if-not-setcount-configcount.false _ values.values_right-verdict.ensures _ _ told.in-Accepted.is c.sets_unused.ensures c.configurations_unused.ensures
+    unused-last c.args.st c.if-not-setcount-configcount.false _ c.values_right-verdict.ensures _ _ c.in-Accepted.is c.sets_unused.ensures c.configurations_unused.ensures

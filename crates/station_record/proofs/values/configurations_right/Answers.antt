@@ -16,21 +16,18 @@ loop-i-init c =
 
 pub returns-then-not-configuration_right : goal.returns-then-not-configuration_right
 returns-then-not-configuration_right c =
-    let at = c.before.before.before in
-    let a = at.args in
-    let n = at.lesser-count.result in
-    configuration-mask a.setcount a.configs n _ at.loop-i.i at.loop-i.invariant.1 at.loop-i.invariant.2 (search rules) (sym c.configuration_right.ensures ∙ c.if-not-configuration_right.true)
+    let a = c.args in
+    let n = c.lesser-count.result in
+    configuration-mask a.setcount a.configs n _ c.loop-i.i c.loop-i.invariant.1 c.loop-i.invariant.2 (search rules) (sym c.configuration_right.ensures ∙ c.if-not-configuration_right.true)
 
 pub loop-i-preserved : goal.loop-i-preserved
 loop-i-preserved c =
-    let at = c.before.before.before in
-    let a = at.args in
-    let n = at.lesser-count.result in
-    (at.loop-i.invariant.0, at.loop-i.invariant.1, configuration-in-order a.setcount a.configs n _ at.loop-i.i at.loop-i.invariant.1 at.loop-i.invariant.2 (search rules) (sym c.configuration_right.ensures ∙ c.if-not-configuration_right.false))
+    let a = c.args in
+    let n = c.lesser-count.result in
+    (c.loop-i.invariant.0, c.loop-i.invariant.1, configuration-in-order a.setcount a.configs n _ c.loop-i.i c.loop-i.invariant.1 c.loop-i.invariant.2 (search rules) (sym c.configuration_right.ensures ∙ c.if-not-configuration_right.false))
 
 pub returns : goal.returns
 returns c =
-    let at = c.before in
-    let a = at.args in
-    let n = at.lesser-count.result in
-    configurations-in-order a.setcount a.configs n _ at.loop-i.i at.loop-i.invariant.1 at.loop-i.invariant.2 (search rules)
+    let a = c.args in
+    let n = c.lesser-count.result in
+    configurations-in-order a.setcount a.configs n _ c.loop-i.i c.loop-i.invariant.1 c.loop-i.invariant.2 (search rules)

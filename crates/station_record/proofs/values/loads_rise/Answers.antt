@@ -15,9 +15,8 @@ loop-i-init c = (omega arith, refl)
 
 pub loop-i-preserved : goal.loop-i-preserved
 loop-i-preserved c =
-    let at = c.before.before in
-    let a = at.args in
-    (omega arith, all-turn (λ j. rises a.points j (get_or a.loads j 0) (get_or a.loads (suc j) 0)) _ _ _ at.loop-i.invariant.1 (rw add-one at c.rises_at-ok.ensures))
+    let a = c.args in
+    (omega arith, all-turn (λ j. rises a.points j (get_or a.loads j 0) (get_or a.loads (suc j) 0)) _ _ _ c.loop-i.invariant.1 (rw add-one at c.rises_at-ok.ensures))
 
 pub returns : goal.returns
 returns c = let e : c.loop-i.i ≡ 4 = omega arith in rw e at c.loop-i.invariant.1

@@ -13,9 +13,8 @@ loop-i-init c = (omega arith, refl)
 
 pub loop-i-preserved : goal.loop-i-preserved
 loop-i-preserved c =
-    let at = c.before.before in
-    let a = at.args in
-    (omega arith, all-turn (λ j. pair_right a.points j (get_or a.loads j 0) (get_or a.rates j 0)) _ _ _ at.loop-i.invariant.1 c.pair_right-ok.ensures)
+    let a = c.args in
+    (omega arith, all-turn (λ j. pair_right a.points j (get_or a.loads j 0) (get_or a.rates j 0)) _ _ _ c.loop-i.invariant.1 c.pair_right-ok.ensures)
 
 pub returns : goal.returns
 returns c = let e : c.loop-i.i ≡ 5 = omega arith in rw e at c.loop-i.invariant.1

@@ -17,36 +17,27 @@ loop-i-init c =
 pub returns-then-not-numbers : goal.returns-then-not-numbers
 unfolding set_at past_end
 returns-then-not-numbers c =
-    let set = c.before.before in
-    let at = set.before.before.before in
-    let a = at.args in
-    let n = at.lesser-count.result in
-    set-number a.sets n _ at.loop-i.i at.loop-i.invariant.1 at.loop-i.invariant.2 (search rules) (sym set.set_right-numbers.ensures ∙ c.if-not-numbers.true)
+    let a = c.args in
+    let n = c.lesser-count.result in
+    set-number a.sets n _ c.loop-i.i c.loop-i.invariant.1 c.loop-i.invariant.2 (search rules) (sym c.set_right-numbers.ensures ∙ search rules)
 
 pub returns-then-not-pairs : goal.returns-then-not-pairs
 unfolding set_at past_end
 returns-then-not-pairs c =
-    let one = c.before in
-    let set = one.before.before in
-    let at = set.before.before.before in
-    let a = at.args in
-    let n = at.lesser-count.result in
-    set-pairs a.sets n _ at.loop-i.i at.loop-i.invariant.1 at.loop-i.invariant.2 (search rules) (sym set.set_right-numbers.ensures ∙ one.if-not-numbers.false) (sym one.pairs_right-pairs.ensures ∙ c.if-not-pairs.true)
+    let a = c.args in
+    let n = c.lesser-count.result in
+    set-pairs a.sets n _ c.loop-i.i c.loop-i.invariant.1 c.loop-i.invariant.2 (search rules) (sym c.set_right-numbers.ensures ∙ search rules) (sym c.pairs_right-pairs.ensures ∙ search rules)
 
 pub loop-i-preserved : goal.loop-i-preserved
 unfolding set_at past_end
 loop-i-preserved c =
-    let one = c.before in
-    let set = one.before.before in
-    let at = set.before.before.before in
-    let a = at.args in
-    let n = at.lesser-count.result in
-    let fits = at.loop-i.invariant.1 in
-    (at.loop-i.invariant.0, fits, set-in-order a.sets n _ at.loop-i.i fits at.loop-i.invariant.2 (search rules) (sym set.set_right-numbers.ensures ∙ one.if-not-numbers.false) (sym one.pairs_right-pairs.ensures ∙ c.if-not-pairs.false))
+    let a = c.args in
+    let n = c.lesser-count.result in
+    let fits = c.loop-i.invariant.1 in
+    (c.loop-i.invariant.0, fits, set-in-order a.sets n _ c.loop-i.i fits c.loop-i.invariant.2 (search rules) (sym c.set_right-numbers.ensures ∙ search rules) (sym c.pairs_right-pairs.ensures ∙ search rules))
 
 pub returns : goal.returns
 returns c =
-    let at = c.before in
-    let a = at.args in
-    let n = at.lesser-count.result in
-    sets-in-order a.sets n _ at.loop-i.i at.loop-i.invariant.1 at.loop-i.invariant.2 (search rules)
+    let a = c.args in
+    let n = c.lesser-count.result in
+    sets-in-order a.sets n _ c.loop-i.i c.loop-i.invariant.1 c.loop-i.invariant.2 (search rules)
