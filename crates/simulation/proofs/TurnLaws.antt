@@ -18,7 +18,7 @@ use Rattle.run_phases.specs.declared.state.Simulation.{Simulation}
 use Rattle.run_phases.specs.declared.state.Turn.{Turn}
 use Rattle.run_phases.specs.declared.state.Wants.{Wants}
 use Rattle.run_texts.specs.Rows.{row_texts, set_texts, rows_with}
-use Rattle.run_texts.specs.Text.{text_of, to_print}
+use Rattle.run_texts.specs.Text.{to_print}
 use Rattle.run_texts.specs.Coming.{Comes, weight, is_before_sets}
 use Rattle.simulation.specs.Turns.{Ended, Moved, put_at}
 

@@ -1,5 +1,4 @@
 -- `handed_over` meets its contract: second after second. Assumes nothing.
-use Prim.Native.Nat.{◌-◌}
 use native.Mathlib.Omega.{arith}
 use lib.ListN.{length-set}
 use Rattle.course_work.proofs.HandedOver.{handing-start, handing-more, handing-over}

@@ -1,7 +1,7 @@
 -- `some_rows` meets its contract: the text of the rows of the seconds worked stands in the buffer. Assumes nothing.
 use Prim.Native.Nat.{◌*◌, ◌≤◌}
 use native.Mathlib.Omega.{arith}
-use lib.ListN.{length, take, drop, length-map, length-take}
+use lib.ListN.{length, take, drop, length-take}
 use Rattle.rules.proofs.Shapes.{Tables}
 use Rattle.row_texts.specs.RowLines.{LinesPut}
 use Rattle.simulation.proofs.LineLaws.{rest-is}
@@ -13,17 +13,13 @@ use Rattle.simulation.proofs.seconds_turn.some_rows.Goals.{Start, After-work-mov
 tables : (c : Start) → Tables c.args.t.simulation.course.station
 tables c =
     let good = c.well_formed.0.1.1.0.1.1.1.0.1.1.0.1.1.1.1.1.1 in
-    record { sets-length = simp length-map at good.0.1.0.1; configs-length = simp length-map at good.1.0.1.0.1 }
-
--- where the call of the course began
-abbrev start : After-work-moved → Start
-start c = c.before.before.before.before.before.before
+    record { sets-length = good.0.1.0.1; configs-length = good.1.0.1.0.1 }
 
 fits : (c : After-work-moved) → 13 * c.work-moved.result.seconds ≤ length c.work-moved.new.rows
-fits c = numbers_fit c.args.t c.args.chunk.now c.args.ended c.args.out.now c.args.rows.now c.requires.0 c.requires.1 (tables c.before.before.before.before.before.before.before) _ _ c.work-moved.ensures
+fits c = numbers_fit c.args.t c.args.chunk.now c.args.ended c.args.out.now c.args.rows.now c.requires.0 c.requires.1 (tables c.before.before.before.before.before.before.before.before) _ _ c.work-moved.ensures
 
 -- the rows were put into the tail that was lent
-put : (c : After-put_rows-put) → LinesPut (take (13 * c.work-moved.result.seconds) c.work-moved.new.rows) (drop (start c.before.before.before.before.before.before).args.t.written (start c.before.before.before.before.before.before).args.out.now) c.put_rows-put.result c.put_rows-put.new.out
+put : (c : After-put_rows-put) → LinesPut (take (13 * c.work-moved.result.seconds) c.work-moved.new.rows) (drop c.args.t.written c.args.out.now) c.put_rows-put.result c.put_rows-put.new.out
 put c = rw rest-is at c.put_rows-put.ensures
 
 pub overflow_mul-numbers : goal.overflow_mul-numbers
@@ -42,8 +38,7 @@ slice_bounds-put_rows-start c = c.requires.0
 pub overflow_add-result : goal.overflow_add-result
 overflow_add-result c =
     let room = rows-room c.args.t c.args.chunk.now c.args.ended c.args.out.now c.args.rows.now c.requires.0 c.requires.1 (tables (goal.at.overflow_add-result c).Start) _ _ c.work-moved.ensures _ _ (put (goal.at.overflow_add-result c).After-put_rows-put) in
-    omega (arith, room, c.before.before.before.before.before.before.before.before.before.before.before.before.before.before.before.before.before.good.1.1.1.1.0.0)
--- CONV: no step good at Start
+    omega (arith, room, c.well_formed.1.1.1.1.0.0)
 
 pub returns : goal.returns
 returns c =
