@@ -31,8 +31,8 @@ module _ (st : Station) (r : Run) (l : LentMany) where
   many_by : ManyBy st r many_of
   many_by = record {
     κs = ([], ([], tt));
-    args = (st, (r, (record { ref_ptr = (0, 0); now = l.inputs }, (record { ref_ptr = (0, 0); now = l.lent }, tt))));
-    exit = (st, (r, (record { ref_ptr = (0, 0); now = l.inputs }, (record { ref_ptr = (0, 0); now = many_of.left }, tt))));
+    args = (st, (r, (record { ref_ptr = (0, 0); now = l.inputs }, (record { ref_ptr = (0, 0); ghost_name = 0; now = l.lent }, tt))));
+    exit = (st, (r, (record { ref_ptr = (0, 0); now = l.inputs }, (record { ref_ptr = (0, 0); ghost_name = 0; now = many_of.left }, tt))));
     passed = (refl, refl, refl, refl);
     returned = record { hands = refl; counts = refl; ends = refl; leaves = refl };
     seen = refl;
