@@ -22,8 +22,7 @@ bounds-after-i-in-loop-i c = let l = c.loop-i in omega (arith, l.invariant.3, l.
 pub loop-i-preserved : goal.loop-i-preserved
 loop-i-preserved c =
     let l = c.loop-i in
-    let start = c.before.before.before in
-    (omega arith, omega arith, turn start.args.after.now l.after l.i l.invariant.0 (omega (arith, l.invariant.3)) l.invariant.2, l.invariant.3, length-set l.after (l.i - 1) _ ∙ l.invariant.4)
+    (omega arith, omega arith, turn c.args.after.now l.after l.i l.invariant.0 (omega (arith, l.invariant.3)) l.invariant.2, l.invariant.3, length-set l.after (l.i - 1) _ ∙ l.invariant.4)
 
 pub overflow_sub-after-2 : goal.overflow_sub-after-2
 overflow_sub-after-2 c = omega (arith, c.requires.0)
@@ -32,12 +31,11 @@ pub bounds-after-count : goal.bounds-after-count
 bounds-after-count c = let l = c.loop-i in omega (arith, c.requires.0, l.invariant.3, l.invariant.4)
 
 pub shape_of-after : goal.shape_of-after
-shape_of-after c = let l = c.loop-i in length-set l.after (c.args.count - 1) _ ∙ l.invariant.4
+shape_of-after c = let l = c.loop-i in length-set l.after _ _ ∙ l.invariant.4
 
 pub returns : goal.returns
 returns c =
     let l = c.loop-i in
-    let start = c.before.before in
-    let a = start.args in
+    let a = c.args in
     let e : l.i ≡ a.count = omega (arith, l.invariant.1) in
-    end a.after.now l.after a.count a.new start.requires.0 l.invariant.3 (rw e at l.invariant.2)
+    end a.after.now l.after a.count a.new c.requires.0 l.invariant.3 (rw e at l.invariant.2)
