@@ -28,7 +28,7 @@ pub(crate) fn wrote_start(rt: &HostRuntime, buffer: &[u8], size: usize) -> bool 
     }
 }
 
-fn write_value(rt: &HostRuntime, name: &[u8], value: u64) -> io::Result<()> {
+fn wrote_value(rt: &HostRuntime, name: &[u8], value: u64) -> io::Result<()> {
     rt.write_all(name)?;
     rt.print(value)
 }
@@ -49,13 +49,13 @@ fn write_tally(rt: &HostRuntime, tally: Tally) -> io::Result<()> {
     let bytes = tally.bytes;
     let run = tally.run;
     let states = run.sets;
-    write_value(rt, b"seconds ", tally.seconds)?;
-    write_value(rt, b", bytes ", bytes.count)?;
-    write_value(rt, b", checksum ", checksum(bytes))?;
-    write_value(rt, b", done ", run.done as u64)?;
-    write_value(rt, b", store ", run.store)?;
-    write_value(rt, b", called ", run.called as u64)?;
-    write_value(rt, b", fuel ", fuel_of(states))?;
+    wrote_value(rt, b"seconds ", tally.seconds)?;
+    wrote_value(rt, b", bytes ", bytes.count)?;
+    wrote_value(rt, b", checksum ", checksum(bytes))?;
+    wrote_value(rt, b", done ", run.done as u64)?;
+    wrote_value(rt, b", store ", run.store)?;
+    wrote_value(rt, b", called ", run.called as u64)?;
+    wrote_value(rt, b", fuel ", fuel_of(states))?;
     rt.write_all(b"\n")
 }
 
