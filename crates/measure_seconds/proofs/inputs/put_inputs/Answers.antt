@@ -1,5 +1,5 @@
 -- `measure_seconds::inputs::put_inputs` is safe and ends. The numbers keep their length; the seconds that are left fall. Assumes nothing.
-use Rattle.std.proofs.Common.{◌-◌, arith, length-set}
+use Rattle.std.proofs.Common.{arith, length-set}
 use Rattle.measure_seconds.proofs.inputs.put_inputs.Goals as goal
 
 pub bounds-inputs-at-in-loop-i : goal.bounds-inputs-at-in-loop-i
