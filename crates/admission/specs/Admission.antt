@@ -1,11 +1,10 @@
 -- Which seconds of a call the rules admit, one after the other, and why no more are worked.
-use Rattle.std.specs.Prelude.{ℕ, zero, suc, ◌+◌, ◌≡◌, List, [], ◌∷◌, eqb, length}
+use Rattle.std.specs.Prelude.{ℕ, zero, suc, ◌+◌, ◌≡◌, List, [], ◌∷◌, eqb, length, if◌then◌else◌}
 use Rattle.rules.specs.declared.answers.Ended.{Ended}
 use Rattle.rules.specs.declared.answers.Ended.TheVariants.{AllWorked, NoRoom, BeforeRefused}
 use Rattle.rules.specs.declared.station.Station.{Station}
 use Rattle.rules.specs.declared.run.Inputs.{Inputs}
 use Rattle.rules.specs.declared.run.Run.{Run}
-use Rattle.rules.specs.Numbers.{if◌then◌else◌}
 use Rattle.rules.specs.Answers.{is_accepted}
 use Rattle.rules.specs.StationRecord.{some_file_gives}
 use Rattle.rules.specs.RunRecord.{possible}

@@ -1,10 +1,10 @@
 -- The seconds asked, out of the cell that the sample file's reader of digits gives. Assumes nothing.
+use Rattle.std.specs.Prelude.{if◌then◌else◌}
 use Prim.Native.Nat.{ℕ}
 use mathlib.Core.Path.{◌≡◌, refl, ap, ◌∙◌}
 use mathlib.Core.Bool.{Bool, true, false}
 use mathlib.Core.List.{List}
 use lib.Dec.{leb, eqb}
-use Rattle.rules.specs.Numbers.{if◌then◌else◌}
 use Rattle.rules.specs.Answers.{Answer, accepted, refused, need, ◌>>◌}
 use Rattle.rules.specs.Bytes.{digits, value}
 use Rattle.rules.specs.RunRecord.{most_seconds}

@@ -1,4 +1,5 @@
 -- Every list of accepted seconds, one after the other: the sums, the rows, the record after them. Assumes nothing.
+use Rattle.std.specs.Prelude.{if◌then◌else◌}
 use Prim.Native.Nat.{ℕ, ◌+◌, ◌*◌, ◌<◌}
 use mathlib.Core.Path.{◌≡◌, refl, sym, ap, ◌∙◌}
 use mathlib.Core.Bool.{Bool, true, false}
@@ -11,7 +12,7 @@ use Rattle.rules.specs.declared.run.Inputs.{Inputs}
 use Rattle.rules.specs.declared.run.Run.{Run}
 use Rattle.rules.specs.declared.run.SetState.{SetState}
 use Rattle.rules.specs.declared.run.Totals.{Totals}
-use Rattle.rules.specs.Numbers.{if◌then◌else◌, has}
+use Rattle.rules.specs.Numbers.{has}
 use Rattle.rules.specs.StationRecord.{set_at}
 use Rattle.rules.specs.Share.{share}
 use Rattle.rules.specs.Fuel.{fuel_rate}

@@ -1,4 +1,5 @@
 -- WHAT DEMAND 3 SAYS of the rows of accepted seconds from the start, and of the record after them. Assumes nothing.
+use Rattle.std.specs.Prelude.{if◌then◌else◌}
 use Prim.Native.Nat.{ℕ, ◌+◌, ◌*◌, ◌<◌}
 use mathlib.Core.Path.{◌≡◌, refl, sym, ap, ◌∙◌}
 use mathlib.Core.Bool.{true}
@@ -13,7 +14,7 @@ use Rattle.rules.specs.declared.run.Mode.TheVariants.{Off, On}
 use Rattle.rules.specs.declared.run.Run.{Run}
 use Rattle.rules.specs.declared.run.SetState.{SetState}
 use Rattle.rules.specs.declared.run.Totals.{Totals}
-use Rattle.rules.specs.Numbers.{if◌then◌else◌, has, tab}
+use Rattle.rules.specs.Numbers.{has, tab}
 use Rattle.rules.specs.StationRecord.{set_at, set_right, pairs_right, some_file_gives}
 use Rattle.rules.specs.Fuel.{fuel_rate, exact_curve, exact_sum, fuel_sum}
 use Rattle.rules.specs.Flows.{watts_with, watts_for}

@@ -1,4 +1,5 @@
 -- DEMAND 3 OF THE PRINTED TEXT, for every pair of accepted files and every accepted SECONDS. Assumes nothing.
+use Rattle.std.specs.Prelude.{if◌then◌else◌}
 use Prim.Native.Nat.{ℕ, zero, suc, ◌+◌, ◌≤◌, ◌<◌, min}
 use mathlib.Core.Path.{◌≡◌, refl, sym, ap, ◌∙◌, subst}
 use mathlib.Core.Bool.{true}
@@ -16,7 +17,7 @@ use Rattle.rules.specs.declared.run.Mode.TheVariants.{Off, On}
 use Rattle.rules.specs.declared.run.Run.{Run}
 use Rattle.rules.specs.declared.run.SetState.{SetState}
 use Rattle.rules.specs.declared.run.Step.{Step}
-use Rattle.rules.specs.Numbers.{if◌then◌else◌, has, every}
+use Rattle.rules.specs.Numbers.{has, every}
 use Rattle.rules.specs.Bytes.{LF, bytes, digits, value, parts}
 use Rattle.rules.specs.Answers.{accepted, need, ◌>>◌}
 use Rattle.rules.specs.StationRecord.{set_at, some_file_gives}

@@ -1,4 +1,5 @@
 -- One accepted second: its row's numbers, the replay through it, and what demand 3 says of the row. Assumes nothing.
+use Rattle.std.specs.Prelude.{if◌then◌else◌}
 use Prim.Native.Nat.{ℕ, zero, suc, ◌+◌, ◌-◌, ◌*◌, ◌≤◌, ◌<◌}
 use mathlib.Core.Path.{◌≡◌, sym, ap, ◌∙◌, refl, subst}
 use mathlib.Core.Bool.{Bool, true}
@@ -14,7 +15,7 @@ use Rattle.rules.specs.declared.run.Row.{Row}
 use Rattle.rules.specs.declared.run.Run.{Run}
 use Rattle.rules.specs.declared.run.SetState.{SetState}
 use Rattle.rules.specs.declared.run.Watts.{Watts}
-use Rattle.rules.specs.Numbers.{if◌then◌else◌, has, tab}
+use Rattle.rules.specs.Numbers.{has, tab}
 use Rattle.rules.specs.Bytes.{LF, parts}
 use Rattle.rules.specs.Share.{capacity, share}
 use Rattle.rules.specs.Modes.{state_at, is_on, ticked, on_mask}

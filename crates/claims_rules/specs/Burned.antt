@@ -1,8 +1,8 @@
 -- What demand 3 says of a set's fuel, over a list of powers, one for each second run.
-use Rattle.std.specs.Prelude.{ℕ, ◌+◌, ◌*◌, ◌≤◌, ◌<◌, List, [], ◌∷◌, length}
+use Rattle.std.specs.Prelude.{ℕ, ◌+◌, ◌*◌, ◌≤◌, ◌<◌, List, [], ◌∷◌, length, if◌then◌else◌}
 use Rattle.rules.specs.declared.station.GenSet.{GenSet}
 use Rattle.rules.specs.declared.station.Station.{Station}
-use Rattle.rules.specs.Numbers.{if◌then◌else◌, has}
+use Rattle.rules.specs.Numbers.{has}
 use Rattle.rules.specs.Share.{share}
 use Rattle.rules.specs.Fuel.{curve_scale}
 use Rattle.rules.specs.Curve.{OnCurve}

@@ -1,6 +1,6 @@
 -- "Modes, clocks and held setpoint follow by steps 1, 8, 9 and 11 from station, inputs and rows, not the record": the steps are the
 -- rules' own, over the numbers that the rows show; the clock is counted from the rows' masks.
-use Rattle.std.specs.Prelude.{ℕ, ◌+◌, ◌-◌, Bool, not, ◌&&◌, List, [], ◌∷◌, eqb, Float, get_or, replicate}
+use Rattle.std.specs.Prelude.{ℕ, ◌+◌, ◌-◌, Bool, not, ◌&&◌, List, [], ◌∷◌, eqb, Float, get_or, replicate, if◌then◌else◌}
 use Rattle.rules.specs.declared.station.Station.{Station}
 use Rattle.rules.specs.declared.run.Held.{Held}
 use Rattle.rules.specs.declared.run.Held.TheVariants.{Absent, At}
@@ -8,7 +8,7 @@ use Rattle.rules.specs.declared.run.Mode.{Mode}
 use Rattle.rules.specs.declared.run.Mode.TheVariants.{Off, On}
 use Rattle.rules.specs.declared.run.Run.{Run}
 use Rattle.rules.specs.declared.run.SetState.{SetState}
-use Rattle.rules.specs.Numbers.{if◌then◌else◌, has, tab}
+use Rattle.rules.specs.Numbers.{has, tab}
 use Rattle.rules.specs.Modes.{fresh, state_at, in_service, ticked}
 use Rattle.rules.specs.Commands.{counted_all, commanded_all}
 use Rattle.rules.specs.Setpoint.{wanted_for, held_after}

@@ -1,8 +1,8 @@
 -- The configurations one after the other, as a loop meets them: the first that covers, and the greatest. Assumes nothing.
+use Rattle.std.specs.Prelude.{if◌then◌else◌}
 use Rattle.std.proofs.Common.{◌≡◌, ℕ, zero, suc, ◌+◌, ◌-◌, ◌<◌, ◌≤◌, true, false, List, ◌∷◌, length, get_or, take, drop, sym, refl, ap, ◌∙◌, add-one, arith, drop_of_length-le, length-take-le, drop-cons, get_or-take}
 use lib.Ieee.{Float}
 use lib.ListN.{get_or-eq_default}
-use Rattle.rules.specs.Numbers.{if◌then◌else◌}
 use Rattle.rules.specs.Configuration.{mask_called}
 use Rattle.commitment.specs.declared.configuration.Greatest.{Greatest}
 use Rattle.commitment.specs.Choice.{usable_covering_of, greater, first_covering_of, greatest_usable_of}

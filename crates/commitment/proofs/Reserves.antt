@@ -1,7 +1,7 @@
 -- How large coverage and reserve get, from 32-bit numbers alone: 64 bits hold them, and each step on the way. Assumes nothing.
+use Rattle.std.specs.Prelude.{if◌then◌else◌}
 use Rattle.std.proofs.Common.{ℕ, ◌+◌, ◌-◌, ◌*◌, ◌/◌, ◌<◌, ◌≤◌, max, Bool, true, false, eqb, mul-le-mul, arith}
 use Rattle.rules.specs.declared.station.Control.{Control}
-use Rattle.rules.specs.Numbers.{if◌then◌else◌}
 use Rattle.rules.specs.Setpoint.{coverage_of, reserve}
 
 -- the product of two 32-bit numbers, and the 99 that round it up

@@ -1,5 +1,6 @@
 -- The choice of masks and capacities is the rules' choice of the sets' states, where the mask of the barred sets is that of the states
 -- and each capacity that of its configuration. Assumes nothing.
+use Rattle.std.specs.Prelude.{if◌then◌else◌}
 use Rattle.std.proofs.Common.{◌≡◌, ℕ, zero, suc, ◌+◌, ◌-◌, ◌<◌, Bool, true, false, ◌&&◌, ltb, List, [], ◌∷◌, length, get_or, take, refl, ap, ◌∙◌, arith}
 use native.Mathlib.Decide.{dec_lt}
 use lib.Ieee.{Float}
@@ -7,7 +8,6 @@ use lib.ListN.{get_or-eq_default}
 use Rattle.rules.specs.declared.station.GenSet.{GenSet}
 use Rattle.rules.specs.declared.station.Station.{Station}
 use Rattle.rules.specs.declared.run.SetState.{SetState}
-use Rattle.rules.specs.Numbers.{if◌then◌else◌}
 use Rattle.rules.specs.Share.{capacity}
 use Rattle.rules.specs.Configuration.{mask_called, usable, usable_covering, first_covering, greatest_usable, chosen}
 use Rattle.modes.specs.Barred.{barred_mask}

@@ -1,10 +1,10 @@
 -- Document 01, step 10, of what the call is handed: each configuration's mask and capacity, and one mask of the sets that bar a
 -- configuration. The definitions go as those of the rules do, and `chosen_of` is the rules' own answer where the capacities are the
 -- station's and the mask is that of its sets due or in Service (`proofs/Ruled.antt`).
-use Rattle.std.specs.Prelude.{◌≡◌, ℕ, suc, ◌-◌, ◌<◌, min, Bool, ◌&&◌, ltb, List, [], ◌∷◌, length, take, ◌==◌, bit_and, nat_lt, slice_index, Float}
+use Rattle.std.specs.Prelude.{◌≡◌, ℕ, suc, ◌-◌, ◌<◌, min, Bool, ◌&&◌, ltb, List, [], ◌∷◌, length, take, ◌==◌, bit_and, nat_lt, slice_index, Float, if◌then◌else◌}
 use Rattle.rules.specs.declared.station.GenSet.{GenSet}
 use Rattle.rules.specs.declared.station.Station.{Station}
-use Rattle.rules.specs.Numbers.{if◌then◌else◌, tab}
+use Rattle.rules.specs.Numbers.{tab}
 use Rattle.rules.specs.Share.{capacity}
 use Rattle.rules.specs.Setpoint.{covers}
 use Rattle.rules.specs.Configuration.{mask_called}

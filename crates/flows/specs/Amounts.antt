@@ -1,6 +1,5 @@
 -- Document 01, step 7, of a lent slice: a run has sixty amounts, and a slice of any other length is left as it is.
-use Rattle.std.specs.Prelude.{ℕ, max, List, length, eqb}
-use Rattle.rules.specs.Numbers.{if◌then◌else◌}
+use Rattle.std.specs.Prelude.{ℕ, max, List, length, eqb, if◌then◌else◌}
 use Rattle.rules.specs.Flows.{decided_after}
 
 unfoldable pub decided_in : ℕ → ℕ → List ℕ → List ℕ

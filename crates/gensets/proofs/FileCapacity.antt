@@ -1,4 +1,5 @@
 -- A station record that some file gives: no place has more than 10,000,000 W, so its capacity is never out of range. Assumes nothing.
+use Rattle.std.specs.Prelude.{if◌then◌else◌}
 use Prim.Native.Nat.{ℕ, zero, suc, ◌≤◌}
 use mathlib.Core.Path.{◌≡◌}
 use mathlib.Core.Bool.{true}
@@ -9,7 +10,7 @@ use lib.ListN.{get_or, take, drop}
 use borrow.Author.Tests.{eqb-true, le-ltb}
 use Rattle.rules.specs.declared.station.GenSet.{GenSet}
 use Rattle.rules.specs.declared.station.Station.{Station}
-use Rattle.rules.specs.Numbers.{if◌then◌else◌, tab, every}
+use Rattle.rules.specs.Numbers.{tab, every}
 use Rattle.rules.specs.Answers.{accepted, need, ◌>>◌}
 use Rattle.rules.specs.Share.{running_total, capacity, share}
 use Rattle.rules.specs.StationRecord.{past_end, set_at, set_right, pairs_right, sets_right, set_unused, unused_rules, some_file_gives}

@@ -1,5 +1,6 @@
 -- What `shares` answers, by its own contract: the watts are the diesel together, each within one watt of its set's proportion, and none
 -- outside the mask. Assumes nothing.
+use Rattle.std.specs.Prelude.{if◌then◌else◌}
 use Prim.Native.Nat.{ℕ, zero, suc, ◌+◌, ◌*◌, ◌≤◌, ◌<◌}
 use mathlib.Core.Path.{◌≡◌, refl, ap, ap₂, ◌∙◌}
 use mathlib.Core.Bool.{Bool, true, false}
@@ -11,7 +12,7 @@ use borrow.Fn.Kinds as kinds
 use denote.Triple.Clauses as clauses
 use contract.Lifetimes.{Lfts}
 use Rattle.rules.specs.declared.station.GenSet.{GenSet}
-use Rattle.rules.specs.Numbers.{if◌then◌else◌, has, sum_to, tab}
+use Rattle.rules.specs.Numbers.{has, sum_to, tab}
 use Rattle.rules.specs.StationRecord.{set_at}
 use Rattle.rules.specs.Share.{capacity, share}
 use Rattle.rules.proofs.Tables.{tab-at}

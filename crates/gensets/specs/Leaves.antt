@@ -1,9 +1,9 @@
 -- What the shares of a mask and the rate of a set are for any record, also one that no file gives.
 -- Document 01 gives both for a station of some file. Here the answer has a case of its own for numbers that no file gives, where
 -- they would lead the arithmetic astray, and one for a power above what the rule is for: neither is a refusal of the paper.
-use Rattle.std.specs.Prelude.{ℕ, suc, ◌*◌, ◌≤◌, ◌<◌, ◌≡◌, Bool, not, ◌&&◌, List, [], ◌∷◌, leb, ltb, replicate}
+use Rattle.std.specs.Prelude.{ℕ, suc, ◌*◌, ◌≤◌, ◌<◌, ◌≡◌, Bool, not, ◌&&◌, List, [], ◌∷◌, leb, ltb, replicate, if◌then◌else◌}
 use Rattle.rules.specs.declared.station.GenSet.{GenSet}
-use Rattle.rules.specs.Numbers.{if◌then◌else◌, within, tab, all_hold}
+use Rattle.rules.specs.Numbers.{within, tab, all_hold}
 use Rattle.rules.specs.Share.{capacity, share}
 use Rattle.rules.specs.Fuel.{load_at, rate_at, lower_point, fuel_rate}
 use Rattle.gensets.specs.declared.share.Sharing.{Sharing}

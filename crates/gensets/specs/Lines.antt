@@ -1,7 +1,7 @@
 -- The line between two points of a set's curve in whole numbers (step 8 of document 01), and the rate on it, of any numbers.
-use Rattle.std.specs.Prelude.{ℕ, suc, ◌*◌, ◌/◌, Bool, ◌&&◌, List, [], ◌∷◌, pos, ◌+ℤ◌, ◌-ℤ◌, ◌*ℤ◌, leb, ltb}
+use Rattle.std.specs.Prelude.{ℕ, suc, ◌*◌, ◌/◌, Bool, ◌&&◌, List, [], ◌∷◌, pos, ◌+ℤ◌, ◌-ℤ◌, ◌*ℤ◌, leb, ltb, if◌then◌else◌}
 use Rattle.rules.specs.declared.station.GenSet.{GenSet}
-use Rattle.rules.specs.Numbers.{if◌then◌else◌, within, all_hold}
+use Rattle.rules.specs.Numbers.{within, all_hold}
 use Rattle.rules.specs.Fuel.{load_at, rate_at, step_at, not_below_zero}
 use Rattle.gensets.specs.declared.fuel.Rate.{Rate}
 use Rattle.gensets.specs.declared.line.Line.{Line}

@@ -1,5 +1,6 @@
 -- The rows of an accepted sample file are right, and so is what each second is handed: every power is at most 50,000 kW, and the
 -- sheddable load is not above the load. Assumes nothing.
+use Rattle.std.specs.Prelude.{if◌then◌else◌}
 use Prim.Native.Nat.{ℕ, zero, suc, ◌+◌}
 use mathlib.Core.Path.{◌≡◌, refl, sym, ap, subst, ◌∙◌}
 use mathlib.Core.Bool.{Bool, true, false}
@@ -9,7 +10,6 @@ use lib.ListN.{drop}
 use Rattle.rules.specs.declared.samples.Sample.{Sample}
 use Rattle.rules.specs.declared.run.Inputs.{Inputs}
 use Rattle.rules.specs.Lines.{Line}
-use Rattle.rules.specs.Numbers.{if◌then◌else◌}
 use Rattle.rules.specs.Answers.{Answer, accepted, refused, is_accepted}
 use Rattle.rules.specs.SampleFile.{sample_sheet, later_rows, rows_after, sheet_lines, sample_of, holding, before_all}
 use Rattle.rules.specs.Run.{inputs_of}

@@ -1,7 +1,6 @@
 -- Document 01, "A row holds until the next": the row in force and the rows after it, from the first byte of the sample file to its end.
 -- What a call owes is stated over every rest of the file, so that calls chain.
-use Rattle.std.specs.Prelude.{ℕ, ◌≡◌, Bool, true, false, not, List, []}
-use Rattle.rules.specs.Numbers.{if◌then◌else◌}
+use Rattle.std.specs.Prelude.{ℕ, ◌≡◌, Bool, true, false, not, List, [], if◌then◌else◌}
 use Rattle.rules.specs.Answers.{is_accepted}
 use Rattle.sample_rows.specs.declared.reader.Ending.{Ending}
 use Rattle.rows_in_force.specs.declared.in_force.Ahead.{Ahead}

@@ -1,4 +1,5 @@
 -- Document 01, step 10: where a configuration of the table is usable and covers, the one called is and does. Assumes nothing.
+use Rattle.std.specs.Prelude.{if◌then◌else◌}
 use Prim.Native.Nat.{ℕ, zero, suc, ◌+◌, ◌-◌, ◌≤◌, ◌<◌}
 use mathlib.Core.Path.{◌≡◌, refl, sym, ap, ◌∙◌}
 use mathlib.Core.Bool.{Bool, true, false, ◌&&◌}
@@ -13,7 +14,6 @@ use borrow.Author.Tests.{lt-ltb}
 use Rattle.rules.specs.declared.station.GenSet.{GenSet}
 use Rattle.rules.specs.declared.station.Station.{Station}
 use Rattle.rules.specs.declared.run.SetState.{SetState}
-use Rattle.rules.specs.Numbers.{if◌then◌else◌}
 use Rattle.rules.specs.Configuration.{mask_called, usable_covering, first_covering, chosen}
 use Rattle.rules.proofs.Tests.{never, both}
 use Rattle.rules.proofs.Shapes.{Tables}

@@ -1,5 +1,6 @@
 -- Document 01, step 8, and the request's demand 3: a set's rate is the exact curve rounded down, in whole numbers, and so are
 -- its sums over any list of powers: never above, and short of it by less than one unit for each second. Assumes nothing.
+use Rattle.std.specs.Prelude.{if◌then◌else◌}
 use Prim.Native.Nat.{ℕ, zero, suc, ◌+◌, ◌-◌, ◌*◌, ◌/◌, ◌≤◌, ◌<◌}
 use mathlib.Core.Path.{◌≡◌, subst}
 use mathlib.Core.Bool.{Bool, true, false}
@@ -9,7 +10,6 @@ use native.Mathlib.Nat.{mul_assoc, mul-pos, mul-le-mul_right, mul-lt-mul_of_pos_
 use lib.Dec.{eqb}
 use lib.ListN.{length}
 use Rattle.rules.specs.declared.station.GenSet.{GenSet}
-use Rattle.rules.specs.Numbers.{if◌then◌else◌}
 use Rattle.rules.specs.StationRecord.{set_right, pairs_right}
 use Rattle.rules.specs.Fuel.{step_at, lower_point, exact_from, fuel_rate, steps_to, other_steps, curve_scale, exact_curve, exact_sum, fuel_sum}
 use Rattle.rules.proofs.StationFacts.{rating-range, points-range}

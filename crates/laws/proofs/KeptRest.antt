@@ -1,5 +1,6 @@
 -- The rest of a possible record stays possible through a second: what is called, the totals, the decided amounts.
 -- Assumes nothing.
+use Rattle.std.specs.Prelude.{if◌then◌else◌}
 use Prim.Native.Nat.{ℕ, suc, ◌+◌, ◌-◌, ◌*◌, ◌≤◌, ◌<◌, min}
 use mathlib.Core.Path.{◌≡◌, ap, ◌∙◌}
 use mathlib.Core.Bool.{Bool, true, false, ◌&&◌}
@@ -19,7 +20,6 @@ use Rattle.rules.specs.declared.run.SetState.{SetState}
 use Rattle.rules.specs.declared.run.Watts.{Watts}
 use Rattle.rules.specs.declared.run.Totals.{Totals}
 use Rattle.rules.specs.declared.run.Inputs.{Inputs}
-use Rattle.rules.specs.Numbers.{if◌then◌else◌}
 use Rattle.rules.specs.Share.{capacity}
 use Rattle.rules.specs.Flows.{shed_now, solar_on_load, battery_gives, battery_takes, diesel_for, watts_with, watts_for, shed_decided, decided_after}
 use Rattle.rules.specs.Configuration.{mask_called, usable, usable_covering, first_covering, greatest_usable, chosen, since_after}

@@ -1,4 +1,5 @@
 -- A possible state of a set stays possible through a second: modes tick, counts, commands. Assumes nothing.
+use Rattle.std.specs.Prelude.{if◌then◌else◌}
 use Prim.Native.Nat.{ℕ, ◌+◌, ◌-◌, ◌*◌, ◌≤◌}
 use mathlib.Core.Path.{◌≡◌, refl, ap, ◌∙◌}
 use mathlib.Core.Bool.{Bool, true, false}
@@ -11,7 +12,7 @@ use Rattle.rules.specs.declared.station.GenSet.{GenSet}
 use Rattle.rules.specs.declared.run.Mode.{Mode}
 use Rattle.rules.specs.declared.run.Mode.TheVariants.{Off, Warming, On, Cooling, Service}
 use Rattle.rules.specs.declared.run.SetState.{SetState}
-use Rattle.rules.specs.Numbers.{if◌then◌else◌, within, all_zero}
+use Rattle.rules.specs.Numbers.{within, all_zero}
 use Rattle.rules.specs.StationRecord.{set_right, service_right}
 use Rattle.rules.specs.Fuel.{fuel_rate}
 use Rattle.rules.specs.Modes.{is_on, is_off, due, with_mode, tick_from, tick}

@@ -1,4 +1,5 @@
 -- A loop that carries the weight of its place's bit builds the mask of the places with p, place by place. Assumes nothing.
+use Rattle.std.specs.Prelude.{if◌then◌else◌}
 use Prim.Native.Nat.{ℕ, ◌+◌, ◌*◌, ◌^◌, ◌≤◌, ◌<◌}
 use mathlib.Core.Path.{◌≡◌, refl}
 use mathlib.Core.Bool.{Bool}
@@ -6,7 +7,7 @@ use native.Mathlib.Omega.{arith}
 use native.Mathlib.Nat.{pow-suc}
 use native.Mathlib.Numerals.{add-one}
 use lib.Pow.{pow_mono}
-use Rattle.rules.specs.Numbers.{if◌then◌else◌, mask_of}
+use Rattle.rules.specs.Numbers.{mask_of}
 use Rattle.rules.proofs.Masks.{weighed-most, mask_below}
 
 -- before place i the mask has the places below it, and the weight is that of the place's bit

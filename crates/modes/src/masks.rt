@@ -1,6 +1,5 @@
 // Steps 2 and 10: the mask of the sets On, and of those that bar a configuration from being usable.
-ghost use Rattle.std.specs.Prelude.{◌≡◌, ◌||◌, ◌<◌};
-ghost use Rattle.rules.specs.Numbers.{if◌then◌else◌};
+ghost use Rattle.std.specs.Prelude.{◌≡◌, ◌||◌, ◌<◌, if◌then◌else◌};
 ghost use Rattle.rules.specs.Modes.{due, in_service, on_mask};
 ghost use Rattle.modes.specs.Barred.{barred_mask};
 

@@ -1,6 +1,5 @@
 // 24, the decided shed amounts: within their limit, and nothing beyond the delay.
-ghost use Rattle.std.specs.Prelude.{◌≡◌};
-ghost use Rattle.rules.specs.Numbers.{if◌then◌else◌};
+ghost use Rattle.std.specs.Prelude.{◌≡◌, if◌then◌else◌};
 ghost use Rattle.rules.specs.RunRecord.{decided_possible};
 
 use rules::limits::MOST_POWER;

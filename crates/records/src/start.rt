@@ -1,7 +1,7 @@
 // "At the start": the record of a run before its first second.
-ghost use Rattle.std.specs.Prelude.{◌≡◌, ◌<◌};
+ghost use Rattle.std.specs.Prelude.{◌≡◌, ◌<◌, if◌then◌else◌};
 ghost use Rattle.rules.specs.declared.run.Mode.TheVariants.{Off, On};
-ghost use Rattle.rules.specs.Numbers.{if◌then◌else◌, has, tab};
+ghost use Rattle.rules.specs.Numbers.{has, tab};
 ghost use Rattle.rules.specs.Answers.{judged, value_or, verdict_of};
 ghost use Rattle.rules.specs.Modes.{fresh};
 ghost use Rattle.rules.specs.RunRecord.{start};

@@ -1,8 +1,7 @@
 -- WHERE A REFUSAL'S FAULT STANDS, for the words about it: the station file or one of its entries, sets and configurations, the sample file
 -- or one of its lines, the seconds asked, or what a call was handed. Document 01, "Refusal numbers": "0 for the rest and for a second's own
 -- refusals"; "Seconds asked are 1 to 9 digits, else 18; over 316,224,000 gives 23; both after the files, place 0".
-use Rattle.std.specs.Prelude.{ℕ, eqb}
-use Rattle.rules.specs.Numbers.{if◌then◌else◌}
+use Rattle.std.specs.Prelude.{ℕ, eqb, if◌then◌else◌}
 use Rattle.rules.specs.declared.answers.Refusal.{Refusal}
 use Rattle.rules.specs.declared.answers.Refusal.TheVariants.{StationSize, ContentsEntry, ContentsSize, ControlValue, BatteryValue, SetNumber, SetPairs, ConfigurationMask, LineLength, HeadingBlank, HeadingUnknown, HeadingTwice, HeadingMissing, FirstHeading, CellCount, Malformed, OverLimit, SheddableAboveLoad, FirstTime, NoRow, RunEnded, RunRecord, StationRecord, RowBuffer}
 use Rattle.refusal_words.specs.declared.places.Place.{Place}

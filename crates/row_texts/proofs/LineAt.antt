@@ -1,4 +1,5 @@
 -- A row's line that is put in two parts, and what is known where it was put and where it was not. Assumes nothing.
+use Rattle.std.specs.Prelude.{if◌then◌else◌}
 use Prim.Native.Nat.{ℕ, zero, suc, ◌+◌, ◌^◌, ◌≤◌, ◌<◌}
 use mathlib.Core.Path.{◌≡◌, refl, ◌∙◌}
 use mathlib.Core.Bool.{Bool, true, false}
@@ -8,7 +9,6 @@ use lib.Dec.{leb}
 use lib.ListN.{length, take, drop, length-take, take-append-drop}
 use borrow.Author.Tests.{leb-false}
 use Rattle.rules.specs.Bytes.{comma_line}
-use Rattle.rules.specs.Numbers.{if◌then◌else◌}
 use Rattle.rules.proofs.LittleEndian.{AllBelow}
 use Rattle.decimals.specs.Commaed.{commaed}
 use Rattle.texts.specs.Placed.{placed, roomy, PutAt}

@@ -1,7 +1,6 @@
 -- Rows of thirteen numbers, in the heading's order.
-use Rattle.std.specs.Prelude.{ℕ, List, ◌++◌, leb, length, drop}
+use Rattle.std.specs.Prelude.{ℕ, List, ◌++◌, leb, length, drop, if◌then◌else◌}
 use Rattle.rules.specs.declared.run.Row.{Row}
-use Rattle.rules.specs.Numbers.{if◌then◌else◌}
 use Rattle.rules.specs.Row.{columns}
 
 -- a row's numbers before those of lent rows that have a place for it

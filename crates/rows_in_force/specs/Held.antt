@@ -1,10 +1,9 @@
 -- Document 01, "A row holds until the next": the row in force at a second, of a sample file that comes in chunks.
 -- What a call owes is stated over every rest of the file, so that calls chain.
-use Rattle.std.specs.Prelude.{ℕ, zero, suc, ◌≤◌, ◌<◌, min, max, ◌≡◌, Bool, true, false, List, [], ◌∷◌, ◌++◌, length, drop, leb}
+use Rattle.std.specs.Prelude.{ℕ, zero, suc, ◌≤◌, ◌<◌, min, max, ◌≡◌, Bool, true, false, List, [], ◌∷◌, ◌++◌, length, drop, leb, if◌then◌else◌}
 use Rattle.byte_search.specs.Bytes.{index_of}
 use Rattle.rules.specs.declared.samples.Sample.{Sample}
 use Rattle.rules.specs.declared.run.Inputs.{Inputs}
-use Rattle.rules.specs.Numbers.{if◌then◌else◌}
 use Rattle.rules.specs.Bytes.{LF}
 use Rattle.rules.specs.Answers.{is_accepted, refusal_of}
 use Rattle.rules.specs.SampleFile.{holding}

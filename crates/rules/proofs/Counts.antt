@@ -1,5 +1,6 @@
 -- Document 01, steps 1, 8 and 11, of the set at a place: its service clock is the seconds run since the last service, its run seconds,
 -- energy and fuel grow where the mask has it, and nowhere else. And the station totals grow by the row's columns. Assumes nothing.
+use Rattle.std.specs.Prelude.{if◌then◌else◌}
 use Prim.Native.Nat.{ℕ, ◌+◌, ◌-◌, ◌<◌}
 use mathlib.Core.Path.{◌≡◌, refl, sym, ap, ◌∙◌}
 use mathlib.Core.Bool.{Bool, true, false, not, ◌&&◌}
@@ -15,7 +16,7 @@ use Rattle.rules.specs.declared.run.Mode.TheVariants.{Off, Warming, On, Cooling,
 use Rattle.rules.specs.declared.run.Run.{Run}
 use Rattle.rules.specs.declared.run.SetState.{SetState}
 use Rattle.rules.specs.declared.run.Totals.{Totals}
-use Rattle.rules.specs.Numbers.{if◌then◌else◌, has}
+use Rattle.rules.specs.Numbers.{has}
 use Rattle.rules.specs.StationRecord.{set_at}
 use Rattle.rules.specs.Share.{share}
 use Rattle.rules.specs.Fuel.{fuel_rate}

@@ -1,5 +1,6 @@
 -- Document 01, step 8: of a set whose checks passed, the rules' exact curve is the client's, in the words of specs/Curve.antt.
 -- Assumes nothing.
+use Rattle.std.specs.Prelude.{if◌then◌else◌}
 use Prim.Native.Nat.{ℕ, zero, suc, ◌+◌, ◌-◌, ◌*◌, ◌≤◌, ◌<◌}
 use mathlib.Core.Path.{◌≡◌, refl, sym, ap, ◌∙◌}
 use mathlib.Core.Bool.{Bool, true, false}
@@ -10,7 +11,7 @@ use lib.Dec.{leb, eqb}
 use lib.ListN.{get_or}
 use borrow.Author.Tests.{ne_eqb, eqb-true, eqb-false, leb-true, leb-false, lt-ltb, ltb-true}
 use Rattle.rules.specs.declared.station.GenSet.{GenSet}
-use Rattle.rules.specs.Numbers.{if◌then◌else◌, all_to}
+use Rattle.rules.specs.Numbers.{all_to}
 use Rattle.rules.specs.StationRecord.{set_right, pair_right, rises, pairs_right}
 use Rattle.rules.specs.Fuel.{load_at, rate_at, step_at, exact_line, not_below_zero, lower_of, lower_point, exact_from, steps_to, other_steps, curve_scale, exact_curve}
 use Rattle.rules.specs.Curve.{Around, line_at, OnCurve}

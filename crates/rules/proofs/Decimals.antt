@@ -1,5 +1,6 @@
 -- Laws of decimal numbers: that enough room gives the same digits, one digit and more, how many digits there are, and that a number
 -- reads back from its digits. Assumes nothing.
+use Rattle.std.specs.Prelude.{if◌then◌else◌}
 use Prim.Native.Nat.{ℕ, zero, suc, ◌+◌, ◌-◌, ◌*◌, ◌/◌, ◌%◌, ◌^◌, ◌≤◌, ◌<◌}
 use mathlib.Core.Path.{◌≡◌, refl, sym, ap, ◌∙◌}
 use mathlib.Core.Bool.{Bool, true, false}
@@ -9,7 +10,6 @@ use native.Mathlib.Omega.{arith}
 use lib.Dec.{ltb}
 use lib.ListN.{length, length-append}
 use borrow.Author.Tests.{lt-ltb, le-ltb}
-use Rattle.rules.specs.Numbers.{if◌then◌else◌}
 use Rattle.rules.specs.Bytes.{digits_in, decimal, value_from, value}
 
 div-pow : (n f : ℕ) → n < 10 ^ suc (suc f) → n / 10 < 10 ^ suc f

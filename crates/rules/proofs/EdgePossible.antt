@@ -1,5 +1,6 @@
 -- Document 01, "At the start", "A run record is possible when" (24) and "station record that no file gives" (25): both sides of each clause.
 -- A test that holds shows 1, and one that does not 0. By computation. Assumes nothing.
+use Rattle.std.specs.Prelude.{if◌then◌else◌}
 use Prim.Native.Nat.{ℕ}
 use mathlib.Core.Path.{◌≡◌, refl}
 use mathlib.Core.Bool.{Bool}
@@ -14,7 +15,6 @@ use Rattle.rules.specs.declared.run.Held.TheVariants.{Absent, At}
 use Rattle.rules.specs.declared.run.Totals.{Totals}
 use Rattle.rules.specs.declared.run.Run.{Run}
 use Rattle.rules.specs.Numbers
-use Rattle.rules.specs.Numbers.{if◌then◌else◌}
 use Rattle.rules.specs.Answers.{refusal}
 use Rattle.rules.specs.StationRecord
 use Rattle.rules.specs.StationRecord.{some_file_gives}

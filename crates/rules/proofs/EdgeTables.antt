@@ -1,12 +1,12 @@
 -- Document 01, "Refusal numbers": each call's table has its own numbers at their places and no others; and the records of zeros, and the
 -- numbers of a body in their order. By computation. Assumes nothing.
+use Rattle.std.specs.Prelude.{if◌then◌else◌}
 use Prim.Native.Nat.{ℕ}
 use mathlib.Core.Path.{◌≡◌, refl}
 use mathlib.Core.List.{List, [], ◌∷◌, ◌++◌, map}
 use lib.ListN.{replicate}
 use Rattle.rules.specs.declared.station.GenSet.{GenSet}
 use Rattle.rules.specs.declared.station.Station.{Station}
-use Rattle.rules.specs.Numbers.{if◌then◌else◌}
 use Rattle.rules.specs.StationRecord.{past_end, no_set, no_station}
 use Rattle.rules.specs.StationFile.{control_of, set_of, control_numbers, set_numbers}
 use Rattle.rules.specs.RefusalTables.{Fault, listed, station_faults, sample_faults, seconds_faults}

@@ -1,4 +1,5 @@
 -- A mask of the places below n with p has just those places, and no bit beyond them. Assumes nothing.
+use Rattle.std.specs.Prelude.{if◌then◌else◌}
 use Prim.Native.Nat.{ℕ, zero, suc, ◌+◌, ◌-◌, ◌*◌, ◌/◌, ◌%◌, ◌^◌, ◌≤◌, ◌<◌}
 use mathlib.Core.Path.{◌≡◌, ap, ◌∙◌}
 use mathlib.Core.Bool.{Bool, true, false}
@@ -6,7 +7,7 @@ use native.Mathlib.Omega.{arith}
 use native.Mathlib.Decide.{dec_lt}
 use native.Mathlib.Nat.{not-suc-le-zero, pow-suc, div-eq_of_lt, add-div_right, add-mul-div_right, add-mul-mod_self_right}
 use lib.Pow.{pow-add, pow_pos}
-use Rattle.rules.specs.Numbers.{if◌then◌else◌, has, mask_of}
+use Rattle.rules.specs.Numbers.{has, mask_of}
 use Rattle.rules.proofs.Tables.{has-beyond}
 
 -- what a place adds is at most its bit's weight

@@ -1,12 +1,13 @@
 -- The parts of a line are the line's own bytes: joined by the byte between them they are the line again, and none has that
 -- byte in it. So no heading and no cell is lost, made or moved. Assumes nothing.
+use Rattle.std.specs.Prelude.{if◌then◌else◌}
 use Prim.Native.Nat.{ℕ}
 use mathlib.Core.Path.{◌≡◌, refl, ap, ◌∙◌}
 use mathlib.Core.Bool.{Bool, true, false, not}
 use mathlib.Core.List.{List, [], ◌∷◌, ◌++◌}
 use lib.Dec.{eqb}
 use borrow.Author.Tests.{eqb-true}
-use Rattle.rules.specs.Numbers.{if◌then◌else◌, every}
+use Rattle.rules.specs.Numbers.{every}
 use Rattle.rules.specs.Bytes.{in_front, parts}
 use Rattle.rules.proofs.Tests.{both, and-true}
 

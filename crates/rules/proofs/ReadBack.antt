@@ -1,4 +1,5 @@
 -- A line of decimal numbers reads back: its parts between commas are the numbers' digits, and its LF ends it. Assumes nothing.
+use Rattle.std.specs.Prelude.{if◌then◌else◌}
 use Prim.Native.Nat.{ℕ, zero, suc, ◌+◌, ◌/◌, ◌%◌, ◌<◌}
 use mathlib.Core.Path.{◌≡◌, refl, sym, ap, ◌∙◌}
 use mathlib.Core.Bool.{Bool, true, false, not}
@@ -6,7 +7,7 @@ use mathlib.Core.List.{List, [], ◌∷◌, ◌++◌, map, append_assoc}
 use native.Mathlib.Omega.{arith}
 use lib.Dec.{leb, ltb, eqb}
 use borrow.Author.Tests.{leb-true, le-leb, eq-eqb, ne_eqb}
-use Rattle.rules.specs.Numbers.{if◌then◌else◌, every}
+use Rattle.rules.specs.Numbers.{every}
 use Rattle.rules.specs.Bytes.{LF, comma, digits_in, decimal, comma_line, value, parts}
 use Rattle.rules.proofs.Tests.{both, every_append}
 use Rattle.rules.proofs.Parts.{without}

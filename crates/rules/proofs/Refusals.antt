@@ -1,5 +1,6 @@
 -- The refusal numbers are the paper's: each fault of the code's enum has its own, those of the table and no other, and the
 -- number with the place tells the fault. Assumes nothing.
+use Rattle.std.specs.Prelude.{if◌then◌else◌}
 use Prim.Native.Nat.{ℕ, ◌-◌}
 use mathlib.Core.Path.{◌≡◌, refl, sym, ap, ◌∙◌}
 use mathlib.Core.List.{List, [], ◌∷◌, map}
@@ -7,7 +8,6 @@ use lib.Dec.{leb}
 use lib.ListN.{get_or}
 use Rattle.rules.specs.declared.answers.Refusal.{Refusal}
 use Rattle.rules.specs.declared.answers.Refusal.TheVariants.{StationSize, ContentsEntry, ContentsSize, ControlValue, BatteryValue, SetNumber, SetPairs, ConfigurationMask, LineLength, HeadingBlank, HeadingUnknown, HeadingTwice, HeadingMissing, FirstHeading, CellCount, Malformed, OverLimit, SheddableAboveLoad, FirstTime, NoRow, RunEnded, RunRecord, StationRecord, RowBuffer}
-use Rattle.rules.specs.Numbers.{if◌then◌else◌}
 use Rattle.rules.specs.Answers.{Answer, accepted, refused, refusal, refusal_of}
 
 -- a fault as an answer

@@ -1,5 +1,6 @@
 -- Document 01, "A later row whose time is not above the last accepted one is skipped": the rows of an accepted sheet begin at
 -- second 0, and each is later than the one before it that was accepted. Assumes nothing.
+use Rattle.std.specs.Prelude.{if◌then◌else◌}
 use Prim.Native.Nat.{ℕ, suc, ◌<◌}
 use mathlib.Core.Path.{◌≡◌, refl, subst}
 use mathlib.Core.Bool.{Bool, true, false}
@@ -8,7 +9,6 @@ use native.Mathlib.Omega.{arith}
 use lib.Dec.{ltb, eqb}
 use borrow.Author.Tests.{ltb-true, eqb-true}
 use Rattle.rules.specs.declared.samples.Sample.{Sample}
-use Rattle.rules.specs.Numbers.{if◌then◌else◌}
 use Rattle.rules.specs.Lines.{Line, lines}
 use Rattle.rules.specs.Answers.{accepted}
 use Rattle.rules.specs.SampleFile.{Sheet, sample_sheet, heading_line, row_values, time_in, later_rows, rows_after, sheet_lines, sample_of, sample_file}

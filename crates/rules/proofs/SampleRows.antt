@@ -1,5 +1,6 @@
 -- The rows of an accepted sample file are right: every power is at most 50,000 kW, and the sheddable load is not above the load. Assumes
 -- nothing.
+use Rattle.std.specs.Prelude.{if◌then◌else◌}
 use Prim.Native.Nat.{ℕ, zero, suc, ◌≤◌}
 use mathlib.Core.Path.{◌≡◌, refl, sym, subst}
 use mathlib.Core.Bool.{Bool, true, false}
@@ -9,7 +10,7 @@ use lib.Dec.{leb, ltb, eqb}
 use lib.ListN.{length, get_or}
 use borrow.Author.Tests.{leb-true, eqb-true}
 use Rattle.rules.specs.declared.samples.Sample.{Sample}
-use Rattle.rules.specs.Numbers.{if◌then◌else◌, tab}
+use Rattle.rules.specs.Numbers.{tab}
 use Rattle.rules.specs.Bytes.{point, digits, value, parts}
 use Rattle.rules.specs.Lines.{Line, lines, cells_of}
 use Rattle.rules.specs.Answers.{Answer, accepted, need, ◌>>=◌, ◌>>◌}

@@ -1,5 +1,6 @@
 -- Document 01, step 10: the rules' test of a configuration is what the words of specs/Serving.antt say, both ways, of a station that some
 -- file gives. Assumes nothing.
+use Rattle.std.specs.Prelude.{if◌then◌else◌}
 use Prim.Native.Nat.{ℕ, zero, suc, ◌+◌, ◌≤◌, ◌<◌}
 use mathlib.Core.Path.{◌≡◌, refl, sym, ap, subst, ◌∙◌}
 use mathlib.Core.Bool.{Bool, true, false, not, ◌||◌}
@@ -17,7 +18,7 @@ use Rattle.rules.specs.declared.station.Station.{Station}
 use Rattle.rules.specs.declared.run.Mode.{Mode}
 use Rattle.rules.specs.declared.run.Mode.TheVariants.{Off, Warming, On, Cooling, Service}
 use Rattle.rules.specs.declared.run.SetState.{SetState}
-use Rattle.rules.specs.Numbers.{if◌then◌else◌, has, existing_only, sum_to, all_to}
+use Rattle.rules.specs.Numbers.{has, existing_only, sum_to, all_to}
 use Rattle.rules.specs.Answers.{accepted}
 use Rattle.rules.specs.StationRecord.{set_at, configuration_right, configurations_right, some_file_gives}
 use Rattle.rules.specs.Share.{running_total, capacity}

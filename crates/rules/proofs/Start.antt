@@ -1,4 +1,5 @@
 -- The record at the start of a run is possible, for every station record that some file gives. Assumes nothing.
+use Rattle.std.specs.Prelude.{if◌then◌else◌}
 use Prim.Native.Nat.{ℕ, ◌*◌, ◌^◌, ◌<◌}
 use mathlib.Core.Path.{◌≡◌, refl, sym}
 use mathlib.Core.Bool.{Bool, true, false}
@@ -11,7 +12,7 @@ use Rattle.rules.specs.declared.station.GenSet.{GenSet}
 use Rattle.rules.specs.declared.station.Station.{Station}
 use Rattle.rules.specs.declared.run.Mode.{Mode}
 use Rattle.rules.specs.declared.run.Mode.TheVariants.{Off, On}
-use Rattle.rules.specs.Numbers.{if◌then◌else◌, has, tab, every}
+use Rattle.rules.specs.Numbers.{has, tab, every}
 use Rattle.rules.specs.StationRecord.{set_at, some_file_gives}
 use Rattle.rules.specs.Modes.{fresh, state_at}
 use Rattle.rules.specs.RunRecord.{start_record, mode_possible, counts_possible, state_possible, states_possible, decided_possible, possible}

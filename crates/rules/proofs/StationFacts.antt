@@ -1,4 +1,5 @@
 -- What is known of the values of a station record whose checks passed. Assumes nothing.
+use Rattle.std.specs.Prelude.{if◌then◌else◌}
 use Prim.Native.Nat.{ℕ, suc, ◌^◌, ◌≤◌, ◌<◌}
 use mathlib.Core.Path.{◌≡◌}
 use mathlib.Core.Bool.{Bool, true, false, ◌&&◌}
@@ -13,7 +14,7 @@ use Rattle.rules.specs.declared.station.Control.{Control}
 use Rattle.rules.specs.declared.station.Battery.{Battery}
 use Rattle.rules.specs.declared.station.GenSet.{GenSet}
 use Rattle.rules.specs.declared.station.Station.{Station}
-use Rattle.rules.specs.Numbers.{if◌then◌else◌, within, existing_only, all_to, every, all_zero}
+use Rattle.rules.specs.Numbers.{within, existing_only, all_to, every, all_zero}
 use Rattle.rules.specs.Answers.{Answer, accepted, need, ◌>>◌}
 use Rattle.rules.specs.StationRecord.{control_rules, control_right, battery_rules, battery_right, service_right, set_rules, set_right, pair_right, rises, pairs_right, sets_right, configurations_right, values_right, set_unused, station_rules, some_file_gives}
 use Rattle.rules.specs.StationFile.{control_numbers, set_numbers}

@@ -1,4 +1,5 @@
 -- Laws of tests: from a test that passed to the fact, and back. Assumes nothing.
+use Rattle.std.specs.Prelude.{if◌then◌else◌}
 use Prim.Native.Nat.{ℕ, zero, suc, ◌+◌, ◌≤◌, ◌<◌}
 use mathlib.Core.Path.{◌≡◌, refl, sym, ap, ◌∙◌}
 use mathlib.Core.Bool.{Bool, true, false, ◌&&◌}
@@ -11,7 +12,7 @@ use lib.Dec.{leb}
 use lib.ListN.{length, get_or, drop, drop_of_length-le}
 use lib.Seq.{drop-cons}
 use borrow.Author.Tests.{leb-true, le-leb, lt-leb}
-use Rattle.rules.specs.Numbers.{if◌then◌else◌, within, all_to, all_from, all_hold, every}
+use Rattle.rules.specs.Numbers.{within, all_to, all_from, all_hold, every}
 
 -- nothing is both true and false
 pub never : {A : Type 0} → false ≡ true → A

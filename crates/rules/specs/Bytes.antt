@@ -1,8 +1,8 @@
 -- Bytes: texts, little-endian numbers, decimal numbers, and the parts of a text between two bytes of a kind.
-use Rattle.std.specs.Prelude.{ℕ, zero, suc, ◌+◌, ◌-◌, ◌*◌, ◌/◌, ◌%◌, ◌^◌, ◌<◌, Bool, true, false, ◌&&◌, List, [], ◌∷◌, ◌++◌, length, drop, ltb, eqb}
+use Rattle.std.specs.Prelude.{ℕ, zero, suc, ◌+◌, ◌-◌, ◌*◌, ◌/◌, ◌%◌, ◌^◌, ◌<◌, Bool, true, false, ◌&&◌, List, [], ◌∷◌, ◌++◌, length, drop, ltb, eqb, if◌then◌else◌}
 use Prim.Native.Char.{code}
 use Prim.Native.String as S
-use Rattle.rules.specs.Numbers.{if◌then◌else◌, within}
+use Rattle.rules.specs.Numbers.{within}
 
 -- the bytes that the formats name
 abbrev pub LF : ℕ

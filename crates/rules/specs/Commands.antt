@@ -1,10 +1,10 @@
 -- Document 01, steps 8 and 11: what a second adds to a set's counts, and the commands to it.
-use Rattle.std.specs.Prelude.{ℕ, ◌+◌, Bool, not, ◌||◌, List}
+use Rattle.std.specs.Prelude.{ℕ, ◌+◌, Bool, not, ◌||◌, List, if◌then◌else◌}
 use Rattle.rules.specs.declared.station.GenSet.{GenSet}
 use Rattle.rules.specs.declared.run.Mode.{Mode}
 use Rattle.rules.specs.declared.run.Mode.TheVariants.{Off, Warming, On, Cooling, Service}
 use Rattle.rules.specs.declared.run.SetState.{SetState}
-use Rattle.rules.specs.Numbers.{if◌then◌else◌, has, all_to, tab}
+use Rattle.rules.specs.Numbers.{has, all_to, tab}
 use Rattle.rules.specs.StationRecord.{set_at}
 use Rattle.rules.specs.Share.{share}
 use Rattle.rules.specs.Fuel.{fuel_rate}

@@ -1,9 +1,9 @@
 -- Document 01, step 10: the configuration called.
-use Rattle.std.specs.Prelude.{ℕ, zero, suc, ◌-◌, Bool, not, ◌&&◌, ◌||◌, List, [], ◌∷◌, get_or, take, ltb, eqb, Float}
+use Rattle.std.specs.Prelude.{ℕ, zero, suc, ◌-◌, Bool, not, ◌&&◌, ◌||◌, List, [], ◌∷◌, get_or, take, ltb, eqb, Float, if◌then◌else◌}
 use Rattle.rules.specs.declared.station.GenSet.{GenSet}
 use Rattle.rules.specs.declared.station.Station.{Station}
 use Rattle.rules.specs.declared.run.SetState.{SetState}
-use Rattle.rules.specs.Numbers.{if◌then◌else◌, has, all_to}
+use Rattle.rules.specs.Numbers.{has, all_to}
 use Rattle.rules.specs.StationRecord.{set_at}
 use Rattle.rules.specs.Share.{capacity}
 use Rattle.rules.specs.Modes.{state_at, due, in_service}

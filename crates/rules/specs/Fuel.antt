@@ -1,7 +1,6 @@
 -- Document 01, step 8: a set's fuel rate at a power, and the exact curve in whole numbers.
-use Rattle.std.specs.Prelude.{ℕ, zero, suc, ◌+◌, ◌-◌, ◌*◌, ◌/◌, List, [], ◌∷◌, ℤ, pos, negsuc, ◌+ℤ◌, ◌-ℤ◌, ◌*ℤ◌, get_or, leb, eqb}
+use Rattle.std.specs.Prelude.{ℕ, zero, suc, ◌+◌, ◌-◌, ◌*◌, ◌/◌, List, [], ◌∷◌, ℤ, pos, negsuc, ◌+ℤ◌, ◌-ℤ◌, ◌*ℤ◌, get_or, leb, eqb, if◌then◌else◌}
 use Rattle.rules.specs.declared.station.GenSet.{GenSet}
-use Rattle.rules.specs.Numbers.{if◌then◌else◌}
 
 -- the point at place j of a curve: its load in thousandths of the rating, its rate in mL/h
 abbrev pub load_at : GenSet → ℕ → ℕ

@@ -1,6 +1,5 @@
 -- Document 01, "The sample file": a file as lines, and a line as headings or cells.
-use Rattle.std.specs.Prelude.{ℕ, List, [], ◌∷◌, length, eqb}
-use Rattle.rules.specs.Numbers.{if◌then◌else◌}
+use Rattle.std.specs.Prelude.{ℕ, List, [], ◌∷◌, length, eqb, if◌then◌else◌}
 use Rattle.rules.specs.Bytes.{LF, CR, comma, parts}
 
 -- A line: its length "without the LF", by which 11 is judged, and its text, which has not the CR that is dropped.

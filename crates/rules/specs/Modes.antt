@@ -1,10 +1,10 @@
 -- Document 01, steps 1 and 2: the sets' modes tick, and the sets On.
-use Rattle.std.specs.Prelude.{ℕ, ◌-◌, Bool, true, false, ◌&&◌, List, get_or, leb, ltb}
+use Rattle.std.specs.Prelude.{ℕ, ◌-◌, Bool, true, false, ◌&&◌, List, get_or, leb, ltb, if◌then◌else◌}
 use Rattle.rules.specs.declared.station.GenSet.{GenSet}
 use Rattle.rules.specs.declared.run.Mode.{Mode}
 use Rattle.rules.specs.declared.run.Mode.TheVariants.{Off, Warming, On, Cooling, Service}
 use Rattle.rules.specs.declared.run.SetState.{SetState}
-use Rattle.rules.specs.Numbers.{if◌then◌else◌, tab, mask_of}
+use Rattle.rules.specs.Numbers.{tab, mask_of}
 use Rattle.rules.specs.StationRecord.{set_at}
 
 -- a set in a mode, "all counts 0"

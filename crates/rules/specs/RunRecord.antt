@@ -1,5 +1,5 @@
 -- Document 01: the run's record at the start, and "A run record is possible when" (24).
-use Rattle.std.specs.Prelude.{ℕ, ◌*◌, Bool, true, ◌&&◌, List, [], ◌∷◌, get_or, replicate, leb, ltb}
+use Rattle.std.specs.Prelude.{ℕ, ◌*◌, Bool, true, ◌&&◌, List, [], ◌∷◌, get_or, replicate, leb, ltb, if◌then◌else◌}
 use Rattle.rules.specs.declared.station.GenSet.{GenSet}
 use Rattle.rules.specs.declared.station.Station.{Station}
 use Rattle.rules.specs.declared.run.Mode.{Mode}
@@ -8,7 +8,7 @@ use Rattle.rules.specs.declared.run.SetState.{SetState}
 use Rattle.rules.specs.declared.run.Held.TheVariants.{Absent}
 use Rattle.rules.specs.declared.run.Totals.{Totals}
 use Rattle.rules.specs.declared.run.Run.{Run}
-use Rattle.rules.specs.Numbers.{if◌then◌else◌, within, has, all_to, tab, all_hold, all_zero}
+use Rattle.rules.specs.Numbers.{within, has, all_to, tab, all_hold, all_zero}
 use Rattle.rules.specs.Answers.{Answer, accepted, need, ◌>>◌}
 use Rattle.rules.specs.StationRecord.{set_at, some_file_gives}
 use Rattle.rules.specs.Modes.{fresh, state_at, is_off}

@@ -1,7 +1,7 @@
 -- Document 01, "The sample file": the rows that the bytes of a file give, or the refusal, line by line and cell by cell.
-use Rattle.std.specs.Prelude.{ℕ, zero, suc, ◌+◌, ◌-◌, ◌*◌, ◌^◌, Bool, false, not, ◌&&◌, ◌||◌, List, [], ◌∷◌, ◌++◌, map, length, get_or, leb, ltb, eqb}
+use Rattle.std.specs.Prelude.{ℕ, zero, suc, ◌+◌, ◌-◌, ◌*◌, ◌^◌, Bool, false, not, ◌&&◌, ◌||◌, List, [], ◌∷◌, ◌++◌, map, length, get_or, leb, ltb, eqb, if◌then◌else◌}
 use Rattle.rules.specs.declared.samples.Sample.{Sample}
-use Rattle.rules.specs.Numbers.{if◌then◌else◌, all_to, tab}
+use Rattle.rules.specs.Numbers.{all_to, tab}
 use Rattle.rules.specs.Bytes.{point, bytes, same, parts, digits, value}
 use Rattle.rules.specs.Lines.{Line, lines, cells_of}
 use Rattle.rules.specs.Answers.{Answer, accepted, refused, need, ◌>>=◌, ◌>>◌}

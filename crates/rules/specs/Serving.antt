@@ -1,13 +1,13 @@
 -- The request's demand 3: "Each row's called configuration is usable and covers the held setpoint, unless none does." What a
 -- configuration that serves is, in the words of document 01's step 10: for every set, and not by the rules' test, so that a mistake
 -- there is not shared; proofs/Serving.antt has that the rules' test is this.
-use Rattle.std.specs.Prelude.{ℕ, zero, suc, ◌+◌, ◌≤◌, ◌<◌, ◌≡◌, true, List, [], ◌∷◌, get_or, Float}
+use Rattle.std.specs.Prelude.{ℕ, zero, suc, ◌+◌, ◌≤◌, ◌<◌, ◌≡◌, true, List, [], ◌∷◌, get_or, Float, if◌then◌else◌}
 use Rattle.std.specs.Float.Ieee.{le}
 use Rattle.rules.specs.declared.station.GenSet.{GenSet}
 use Rattle.rules.specs.declared.station.Station.{Station}
 use Rattle.rules.specs.declared.run.Mode.{Mode}
 use Rattle.rules.specs.declared.run.Mode.TheVariants.{Service}
-use Rattle.rules.specs.Numbers.{if◌then◌else◌, has}
+use Rattle.rules.specs.Numbers.{has}
 use Rattle.rules.specs.StationRecord.{set_at}
 use Rattle.rules.specs.Setpoint.{float}
 

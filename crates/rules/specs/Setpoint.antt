@@ -1,12 +1,11 @@
 -- Document 01, step 9: the reserve, what is wanted, and the filter, in double precision.
-use Rattle.std.specs.Prelude.{ℕ, ◌+◌, ◌-◌, ◌*◌, ◌/◌, max, Bool, pos, eqb, Float}
+use Rattle.std.specs.Prelude.{ℕ, ◌+◌, ◌-◌, ◌*◌, ◌/◌, max, Bool, pos, eqb, Float, if◌then◌else◌}
 use Rattle.std.specs.Float.{binary64}
 use Rattle.std.specs.Float.Ieee.{add, mul, div, le, of_int}
 use Rattle.rules.specs.declared.station.Control.{Control}
 use Rattle.rules.specs.declared.run.Held.{Held}
 use Rattle.rules.specs.declared.run.Held.TheVariants.{Absent, At}
 use Rattle.rules.specs.declared.run.Filter.{Filter}
-use Rattle.rules.specs.Numbers.{if◌then◌else◌}
 
 -- "Coverage = solar on load x coverage % / 100, rounded up."
 unfoldable pub coverage_of : Control → ℕ → ℕ

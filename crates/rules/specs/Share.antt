@@ -1,7 +1,7 @@
 -- Document 01, steps 2 and 6: the capacity of a mask, and the power that each of its sets takes.
-use Rattle.std.specs.Prelude.{ℕ, suc, ◌-◌, ◌*◌, ◌/◌, List}
+use Rattle.std.specs.Prelude.{ℕ, suc, ◌-◌, ◌*◌, ◌/◌, List, if◌then◌else◌}
 use Rattle.rules.specs.declared.station.GenSet.{GenSet}
-use Rattle.rules.specs.Numbers.{if◌then◌else◌, has, sum_to}
+use Rattle.rules.specs.Numbers.{has, sum_to}
 use Rattle.rules.specs.StationRecord.{set_at}
 
 -- "running total C of ratings": those of the first n places' sets that the mask has

@@ -1,8 +1,8 @@
 -- Document 01, its last paragraph: share and fuel rate, as the C sizing screen asks for them.
-use Rattle.std.specs.Prelude.{ℕ, zero, suc, ◌&&◌, List, leb, ltb, eqb}
+use Rattle.std.specs.Prelude.{ℕ, zero, suc, ◌&&◌, List, leb, ltb, eqb, if◌then◌else◌}
 use Rattle.std.specs.Int.Count.{ones}
 use Rattle.rules.specs.declared.station.Station.{Station}
-use Rattle.rules.specs.Numbers.{if◌then◌else◌, has, existing_only, sum_to}
+use Rattle.rules.specs.Numbers.{has, existing_only, sum_to}
 use Rattle.rules.specs.Answers.{Answer, accepted, judged, need, ◌>>=◌, ◌>>◌}
 use Rattle.rules.specs.StationRecord.{set_at}
 use Rattle.rules.specs.StationFile.{station_file}

@@ -1,11 +1,11 @@
 -- Document 01, "The station file": which values a control, a battery, a set and a configuration may have, and which
 -- station records some file gives (25).
-use Rattle.std.specs.Prelude.{ℕ, suc, Bool, true, ◌&&◌, List, [], ◌∷◌, take, drop, get_or, replicate, leb, ltb, eqb}
+use Rattle.std.specs.Prelude.{ℕ, suc, Bool, true, ◌&&◌, List, [], ◌∷◌, take, drop, get_or, replicate, leb, ltb, eqb, if◌then◌else◌}
 use Rattle.rules.specs.declared.station.Control.{Control}
 use Rattle.rules.specs.declared.station.Battery.{Battery}
 use Rattle.rules.specs.declared.station.GenSet.{GenSet}
 use Rattle.rules.specs.declared.station.Station.{Station}
-use Rattle.rules.specs.Numbers.{if◌then◌else◌, within, existing_only, all_to, all_hold, every, all_zero}
+use Rattle.rules.specs.Numbers.{within, existing_only, all_to, all_hold, every, all_zero}
 use Rattle.rules.specs.Answers.{Answer, accepted, need, is_accepted, ◌>>◌}
 
 -- what a list of sets has past its end

@@ -1,10 +1,10 @@
 -- The room that a turn of seconds asks for is enough for a row, and no more than a row's where nothing is written. Assumes nothing.
+use Rattle.std.specs.Prelude.{if◌then◌else◌}
 use Prim.Native.Nat.{ℕ, ◌≤◌}
 use mathlib.Core.Path.{◌≡◌, ap}
 use mathlib.Core.Bool.{Bool, true, false}
 use native.Mathlib.Omega.{arith}
 use lib.Dec.{eqb}
-use Rattle.rules.specs.Numbers.{if◌then◌else◌}
 use Rattle.run_phases.specs.Phases.{least_room}
 
 either : (b : Bool) → 256 ≤ (if b then 256 else 8192)

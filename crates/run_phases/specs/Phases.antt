@@ -1,6 +1,5 @@
 -- The phase that a run comes to after a line or after some seconds, what it wants then, and the room that a turn of seconds asks for.
-use Rattle.std.specs.Prelude.{ℕ, suc, min, eqb}
-use Rattle.rules.specs.Numbers.{if◌then◌else◌}
+use Rattle.std.specs.Prelude.{ℕ, suc, min, eqb, if◌then◌else◌}
 use Rattle.course.specs.declared.state.Halt.{Halt}
 use Rattle.run_phases.specs.declared.state.Phase.{Phase}
 use Rattle.run_phases.specs.declared.state.Wants.{Wants}

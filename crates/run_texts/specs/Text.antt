@@ -1,10 +1,9 @@
 -- Document 01, what the run program prints, by what is still to come: the text that a run in a phase has yet to hand over.
-use Rattle.std.specs.Prelude.{ℕ, suc, List, [], ◌++◌, take, drop, ltb}
+use Rattle.std.specs.Prelude.{ℕ, suc, List, [], ◌++◌, take, drop, ltb, if◌then◌else◌}
 use Rattle.rules.specs.declared.station.Station.{Station}
 use Rattle.rules.specs.declared.run.Inputs.{Inputs}
 use Rattle.rules.specs.declared.run.Run.{Run}
 use Rattle.rules.specs.declared.run.SetState.{SetState}
-use Rattle.rules.specs.Numbers.{if◌then◌else◌}
 use Rattle.rules.specs.Modes.{state_at}
 use Rattle.rules.specs.Row.{row_heading, set_heading, set_lines}
 use Rattle.rows.specs.AnswerLine.{refused_line}

@@ -1,4 +1,5 @@
 -- The lines of a file that comes in pieces, and the bytes of a line that are put together. Assumes nothing.
+use Rattle.std.specs.Prelude.{if◌then◌else◌}
 use Prim.Native.Nat.{ℕ, zero, suc, ◌+◌, ◌-◌, ◌≤◌, ◌<◌, min}
 use mathlib.Core.Path.{◌≡◌, refl, sym, ap, ◌∙◌}
 use mathlib.Core.Bool.{Bool, true, false}
@@ -16,7 +17,6 @@ use Rattle.rules.specs.declared.answers.Refusal.{Refusal}
 use Rattle.rules.specs.declared.answers.Verdict.{Verdict}
 use Rattle.rules.specs.Answers.{Answer, accepted, refused, refusal_of, verdict_of, ◌>>=◌}
 use Rattle.rules.specs.SampleFile.{sample_sheet, sheet_lines, sample_of, sample_file}
-use Rattle.rules.specs.Numbers.{if◌then◌else◌}
 use Rattle.rules.specs.Bytes.{LF, CR, in_front, parts}
 use Rattle.rules.specs.Lines.{Line, without_cr, ended, at_end, lines_of, lines}
 use Rattle.sheet_stages.specs.declared.stage.Stage.{Stage}

@@ -1,9 +1,9 @@
 -- The counts of each set after a second, as their types hold them. Of a possible record each is the rules' own (proofs/SetsRuled.antt): a
 -- number that no possible record has goes round, so that the steps ask nothing of whoever hands them in.
-use Rattle.std.specs.Prelude.{ℕ, ◌+◌, ◌%◌, List, slice_index}
+use Rattle.std.specs.Prelude.{ℕ, ◌+◌, ◌%◌, List, slice_index, if◌then◌else◌}
 use Rattle.rules.specs.declared.station.GenSet.{GenSet}
 use Rattle.rules.specs.declared.run.SetState.{SetState}
-use Rattle.rules.specs.Numbers.{if◌then◌else◌, has, tab}
+use Rattle.rules.specs.Numbers.{has, tab}
 use Rattle.rules.specs.StationRecord.{set_at}
 use Rattle.rules.specs.Modes.{state_at}
 use Rattle.rules.specs.Commands.{command, every_on}

@@ -1,4 +1,5 @@
 -- Laws of a power's cell: its form and its value from what stands before the first point and what stands after it. Assumes nothing.
+use Rattle.std.specs.Prelude.{if◌then◌else◌}
 use Prim.Native.Nat.{ℕ, suc, ◌+◌, ◌-◌, ◌*◌, ◌^◌, ◌<◌}
 use mathlib.Core.Path.{◌≡◌, refl, sym, ◌∙◌}
 use mathlib.Core.Bool.{Bool, true, false, ◌&&◌}
@@ -12,7 +13,7 @@ use lib.ListN.{length, take, drop, length-drop}
 use lib.Seq.{take_all, take-length}
 use borrow.Author.Tests.{eqb-true}
 use Rattle.byte_search.specs.Bytes.{index_after, index_of, slice}
-use Rattle.rules.specs.Numbers.{if◌then◌else◌, within}
+use Rattle.rules.specs.Numbers.{within}
 use Rattle.rules.specs.Bytes.{point, is_digit, all_digits, digits, value_from, value, in_front, parts}
 use Rattle.rules.specs.SampleFile.{power_form, power_value}
 use Rattle.sheet.specs.declared.numbers.Digits.{Digits}

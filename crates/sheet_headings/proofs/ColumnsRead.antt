@@ -1,4 +1,5 @@
 -- The columns of a heading line that were read so far, as the code holds them. Assumes nothing.
+use Rattle.std.specs.Prelude.{if◌then◌else◌}
 use Prim.Native.Nat.{ℕ, ◌<◌}
 use mathlib.Core.Path.{◌≡◌, refl, sym, ap, ◌∙◌}
 use mathlib.Core.Bool.{Bool, true, false, not, ◌&&◌, ◌||◌}
@@ -8,7 +9,7 @@ use native.Mathlib.Decide.{dec_lt}
 use lib.Dec.{eqb}
 use lib.ListN.{length, drop, get_or}
 use borrow.Author.Tests.{eq-eqb, ne_eqb, not-true}
-use Rattle.rules.specs.Numbers.{if◌then◌else◌, all_to, all_hold}
+use Rattle.rules.specs.Numbers.{all_to, all_hold}
 use Rattle.rules.specs.Bytes.{same}
 use Rattle.rules.specs.Answers.{Answer, accepted, refused, need, ◌>>=◌, ◌>>◌}
 use Rattle.rules.specs.SampleFile.{sample_sheet, name_of, occurs, headings}

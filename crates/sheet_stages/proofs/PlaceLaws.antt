@@ -1,4 +1,5 @@
 -- Every refusal of a line has that line as its place, and its number does not depend on where the line stands. Assumes nothing.
+use Rattle.std.specs.Prelude.{if◌then◌else◌}
 use Prim.Native.Nat.{ℕ, zero, suc, min, ◌≤◌}
 use mathlib.Core.Path.{◌≡◌, refl, sym, ap, ◌∙◌}
 use mathlib.Core.Bool.{Bool, true, false, not}
@@ -6,7 +7,7 @@ use mathlib.Core.List.{List, [], ◌∷◌, ◌++◌}
 use native.Mathlib.Omega.{arith}
 use lib.Dec.{leb, ltb, eqb}
 use lib.ListN.{length, get_or}
-use Rattle.rules.specs.Numbers.{if◌then◌else◌, tab, all_to}
+use Rattle.rules.specs.Numbers.{tab, all_to}
 use Rattle.rules.specs.Bytes.{point, digits, value, parts}
 use Rattle.rules.specs.Answers.{Answer, accepted, refused, need, ◌>>=◌, ◌>>◌}
 use Rattle.rules.specs.Lines.{Line, cells_of}

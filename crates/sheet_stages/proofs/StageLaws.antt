@@ -1,4 +1,5 @@
 -- A line takes each stage to the next: what was to come is the row that it gave, and then what is to come. Assumes nothing.
+use Rattle.std.specs.Prelude.{if◌then◌else◌}
 use Prim.Native.Nat.{ℕ, suc, min, ◌≤◌, ◌<◌}
 use mathlib.Core.Path.{◌≡◌, refl, sym, ap, subst, ◌∙◌}
 use mathlib.Core.Bool.{Bool, true, false}
@@ -9,7 +10,6 @@ use borrow.Author.Tests.{lt-leb, eqb-true}
 use Rattle.rules.specs.declared.answers.Refusal.{Refusal}
 use Rattle.rules.specs.declared.answers.Verdict.{Verdict}
 use Rattle.rules.specs.declared.samples.Sample.{Sample}
-use Rattle.rules.specs.Numbers.{if◌then◌else◌}
 use Rattle.rules.specs.Answers.{Answer, accepted, refused, is_accepted, value_or, refusal_of, need, ◌>>=◌, ◌>>◌}
 use Rattle.rules.specs.Lines.{Line}
 use Rattle.rules.specs.SampleFile.{sample_sheet, heading_line, row_values, time_in, later_rows, rows_after, sheet_lines, sample_of}

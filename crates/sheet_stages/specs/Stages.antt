@@ -1,6 +1,5 @@
 -- Document 01, "The sample file": what a later row's answer leads to in code.
-use Rattle.std.specs.Prelude.{ℕ, ltb}
-use Rattle.rules.specs.Numbers.{if◌then◌else◌}
+use Rattle.std.specs.Prelude.{ℕ, ltb, if◌then◌else◌}
 use Rattle.sheet_headings.specs.declared.headings.Columns.{Columns}
 use Rattle.sheet.specs.declared.rows.RowRead.{RowRead}
 use Rattle.sheet_stages.specs.declared.stage.Stage.{Stage}

@@ -1,5 +1,6 @@
 -- A set's lines read from the table: how many of those after the first have begun is the lower point's place, and the numbers of that line
 -- give the rate. Assumes nothing.
+use Rattle.std.specs.Prelude.{if◌then◌else◌}
 use Prim.Native.Nat.{ℕ, zero, suc, ◌+◌, ◌-◌, ◌*◌, ◌≤◌, ◌<◌}
 use mathlib.Core.Path.{◌≡◌, refl, sym, ap, ◌∙◌}
 use mathlib.Core.Bool.{Bool, true, false}
@@ -10,7 +11,7 @@ use lib.Dec.{leb}
 use lib.ListN.{get_or}
 use borrow.Author.Tests.{le-leb, lt-leb, leb-true, leb-false}
 use Rattle.rules.specs.declared.station.GenSet.{GenSet}
-use Rattle.rules.specs.Numbers.{if◌then◌else◌, sum_to}
+use Rattle.rules.specs.Numbers.{sum_to}
 use Rattle.rules.specs.Fuel.{load_at, lower_of, lower_point, fuel_rate}
 use Rattle.rules.proofs.StationFacts.{rating-range, points-range}
 use Rattle.rules.proofs.Curve.{loads-rise, lower-inside}

@@ -1,9 +1,9 @@
 -- Steady seconds: no set changes its mode, so that step 1 of document 01 counts the timed modes down, step 8 adds to the counts of the
 -- sets On alone, and step 11 changes nothing. What is added stands beside the states as they were.
-use Rattle.std.specs.Prelude.{ℕ, ◌+◌, ◌≤◌, ◌<◌, ◌≡◌, true, List, length, get_or}
+use Rattle.std.specs.Prelude.{ℕ, ◌+◌, ◌≤◌, ◌<◌, ◌≡◌, true, List, length, get_or, if◌then◌else◌}
 use Rattle.rules.specs.declared.station.GenSet.{GenSet}
 use Rattle.rules.specs.declared.run.SetState.{SetState}
-use Rattle.rules.specs.Numbers.{if◌then◌else◌, has, tab}
+use Rattle.rules.specs.Numbers.{has, tab}
 use Rattle.rules.specs.StationRecord.{set_at, set_right, pairs_right}
 use Rattle.rules.specs.Share.{capacity, share}
 use Rattle.rules.specs.Fuel.{fuel_rate}

@@ -1,7 +1,6 @@
 // Tables for a stretch of steady seconds: the running totals of the mask's ratings, and the lines of its sets' fuel curves, so that a second
 // reads them and does not work them out anew.
-ghost use Rattle.std.specs.Prelude.{◌≡◌, suc, ◌+◌, ◌*◌, ◌≤◌, ◌<◌, length, leb};
-ghost use Rattle.rules.specs.Numbers.{if◌then◌else◌};
+ghost use Rattle.std.specs.Prelude.{◌≡◌, suc, ◌+◌, ◌*◌, ◌≤◌, ◌<◌, length, leb, if◌then◌else◌};
 ghost use Rattle.rules.specs.Fuel.{lower_point, fuel_rate};
 ghost use Rattle.steady.specs.CurveTable.{InRule, LineAt, CurveAt, Untouched, Tabled, Fillable, Readable};
 

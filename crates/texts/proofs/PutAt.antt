@@ -1,4 +1,5 @@
 -- A text that is put where so many bytes have room, and left out where they have none. Assumes nothing.
+use Rattle.std.specs.Prelude.{if◌then◌else◌}
 use Prim.Native.Nat.{ℕ, ◌+◌, ◌≤◌, ◌<◌}
 use mathlib.Core.Path.{◌≡◌, refl, sym}
 use mathlib.Core.Bool.{Bool, true, false}
@@ -7,7 +8,6 @@ use native.Mathlib.Omega.{arith}
 use lib.Dec.{leb}
 use lib.ListN.{length, take-append-drop}
 use borrow.Author.Tests.{le-leb, lt-leb}
-use Rattle.rules.specs.Numbers.{if◌then◌else◌}
 use Rattle.texts.specs.Placed.{placed, roomy, PutAt, Front}
 use Rattle.texts.proofs.Texts.{goes_on}
 

@@ -1,6 +1,5 @@
 -- Document 01, "bytes past the row stay": a text in a lent buffer, from a place on, and the bytes before and past it.
-use Rattle.std.specs.Prelude.{ℕ, ◌+◌, ◌≡◌, List, [], ◌++◌, leb, length, take, drop}
-use Rattle.rules.specs.Numbers.{if◌then◌else◌}
+use Rattle.std.specs.Prelude.{ℕ, ◌+◌, ◌≡◌, List, [], ◌++◌, leb, length, take, drop, if◌then◌else◌}
 
 -- the text stands from `at` on, and the bytes before and past it stay
 abbrev pub placed : List ℕ → ℕ → List ℕ → List ℕ

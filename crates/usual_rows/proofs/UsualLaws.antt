@@ -1,9 +1,10 @@
 -- The usual row: digits and powers taken from a place on, and the four cells of a line. Assumes nothing.
+use Rattle.std.specs.Prelude.{if◌then◌else◌}
 use Rattle.std.proofs.Common.{◌≡◌, ℕ, zero, suc, ◌+◌, ◌-◌, ◌*◌, ◌%◌, ◌^◌, ◌<◌, ◌≤◌, Bool, true, false, ◌&&◌, eqb, ltb, leb, List, [], ◌∷◌, ◌++◌, length, get_or, take, drop, sym, refl, ap, ◌∙◌, subst, append_assoc, mod-eq_of_lt, add-one, arith, length-append, length-drop, take-append-drop, length-take, get_or-drop, drop-cons, take-suc, drop-drop, ltb-true, eq-eqb, le-leb, leb-true}
 use lib.Seq.{take-append_seam}
 use Rattle.byte_search.specs.Bytes.{index_after, index_of}
 use Rattle.rules.specs.declared.samples.Sample.{Sample}
-use Rattle.rules.specs.Numbers.{if◌then◌else◌, every, tab}
+use Rattle.rules.specs.Numbers.{every, tab}
 use Rattle.rules.specs.Bytes.{LF, comma, point, digit0, is_digit, all_digits, digits, value_from, value, in_front, parts}
 use Rattle.rules.specs.Lines.{ended}
 use Rattle.rules.specs.Answers.{Answer, accepted, need, ◌>>=◌, ◌>>◌}

@@ -1,5 +1,6 @@
 -- The walk over a mask's sets: the first place from one on is where the mask has a set and none before it, so the walk starts at
 -- the first set, goes up, and misses none. Assumes nothing.
+use Rattle.std.specs.Prelude.{if◌then◌else◌}
 use Prim.Native.Nat.{ℕ, zero, suc, ◌+◌, ◌-◌, ◌/◌, ◌%◌, ◌^◌, ◌≤◌, ◌<◌}
 use mathlib.Core.Path.{◌≡◌, refl, sym, ap, ◌∙◌}
 use mathlib.Core.Bool.{Bool, true, false}
@@ -9,7 +10,7 @@ use native.Mathlib.Nat.{eq-or-lt_of_le, lt_of_not-le, lt_of_le_of_lt, le_refl, m
 use lib.Count.{count_trailing_zeros}
 use lib.Pow.{field, mod-mod-pow, shr-shr, shr_le}
 use borrow.Author.Tests.{eq-eqb}
-use Rattle.rules.specs.Numbers.{if◌then◌else◌, has}
+use Rattle.rules.specs.Numbers.{has}
 use Rattle.rules.proofs.Tests.{never}
 use Rattle.rules.proofs.Tables.{has-beyond}
 use Rattle.words.specs.Masks.{first_from, next_set}

@@ -1,5 +1,6 @@
 -- The sum of a weight f over a mask's sets, along the walk: at the first set it is 0, each turn adds the weight of the set it
 -- leaves, and at the end it is the whole sum. Assumes nothing.
+use Rattle.std.specs.Prelude.{if◌then◌else◌}
 use Prim.Native.Nat.{ℕ, zero, suc, ◌+◌, ◌-◌, ◌*◌, ◌/◌, ◌%◌, ◌^◌, ◌≤◌, ◌<◌, zero-le}
 use mathlib.Core.Path.{◌≡◌, refl, sym, ap, ◌∙◌}
 use mathlib.Core.Bool.{true, false}
@@ -9,7 +10,7 @@ use native.Mathlib.Numerals.{add-one}
 use lib.Dec.{eqb}
 use lib.Count.{ones, ones_step}
 use lib.Pow.{shr-shr}
-use Rattle.rules.specs.Numbers.{if◌then◌else◌, has, sum_to}
+use Rattle.rules.specs.Numbers.{has, sum_to}
 use Rattle.rules.proofs.Tests.{choice}
 use Rattle.words.specs.Masks.{next_set}
 use Rattle.words.proofs.Walk.{Place, between, next-from, place}

@@ -1,6 +1,6 @@
 -- The walk over the sets of a mask, place by place. Bit i of a mask is the set at place i, of eight.
-use Rattle.std.specs.Prelude.{ℕ, zero, suc, ◌-◌}
-use Rattle.rules.specs.Numbers.{if◌then◌else◌, has}
+use Rattle.std.specs.Prelude.{ℕ, zero, suc, ◌-◌, if◌then◌else◌}
+use Rattle.rules.specs.Numbers.{has}
 
 -- the first place of the mask among the d from i on, or i + d
 unfoldable pub first_from : ℕ → ℕ → ℕ → ℕ

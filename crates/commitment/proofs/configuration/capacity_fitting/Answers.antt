@@ -1,7 +1,8 @@
 -- `commitment::configuration::capacity_fitting` meets its contract: a mask of no sets has no capacity. Assumes nothing.
+use Rattle.std.specs.Prelude.{if◌then◌else◌}
 use Rattle.std.proofs.Common.{◌≡◌, ℕ, zero, suc, min, List, refl, arith}
 use Rattle.rules.specs.declared.station.GenSet.{GenSet}
-use Rattle.rules.specs.Numbers.{if◌then◌else◌, has, sum_to}
+use Rattle.rules.specs.Numbers.{has, sum_to}
 use Rattle.rules.specs.StationRecord.{set_at}
 use Rattle.rules.specs.Share.{running_total, capacity}
 use Rattle.rules.proofs.Tables.{has-beyond}

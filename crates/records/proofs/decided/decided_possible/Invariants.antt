@@ -1,11 +1,12 @@
 -- `records::decided::decided_possible` meets its contract: the loop asks each amount once. Assumes nothing.
+use Rattle.std.specs.Prelude.{if◌then◌else◌}
 use Prim.Native.Nat.{ℕ, ◌-◌, ◌≤◌}
 use mathlib.Core.Path.{◌≡◌}
 use mathlib.Core.Bool.{Bool}
 use mathlib.Core.List.{List}
 use lib.Dec.{leb, ltb}
 use lib.ListN.{get_or}
-use Rattle.rules.specs.Numbers.{if◌then◌else◌, all_to}
+use Rattle.rules.specs.Numbers.{all_to}
 use Rattle.records.proofs.decided.decided_possible.Given as goal
 
 abbrev pub amount_possible : ℕ → List ℕ → ℕ → Bool

@@ -1,10 +1,11 @@
 -- `records::start::states_at_start` meets its contract: the loop stores the table of the states place by place. Assumes nothing.
+use Rattle.std.specs.Prelude.{if◌then◌else◌}
 use Prim.Native.Nat.{ℕ, ◌-◌, ◌≤◌}
 use mathlib.Core.Path.{◌≡◌}
 use lib.ListN.{length, take}
 use Rattle.rules.specs.declared.run.Mode.TheVariants.{Off, On}
 use Rattle.rules.specs.declared.run.SetState.{SetState}
-use Rattle.rules.specs.Numbers.{if◌then◌else◌, has, tab}
+use Rattle.rules.specs.Numbers.{has, tab}
 use Rattle.rules.specs.Modes.{fresh}
 use Rattle.records.proofs.start.states_at_start.Given as goal
 
