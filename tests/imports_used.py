@@ -50,7 +50,8 @@ def must_tell():
 
 def main():
     must_tell()
-    files = [p for end in ('antt', 'rt') for p in glob.glob(os.path.join(ROOT, 'crates', '*', '**', '*.' + end), recursive=True)]
+    files = [p for end in ('antt', 'rt') for folder in ('src', 'specs', 'proofs')
+             for p in glob.glob(os.path.join(ROOT, 'crates', '*', folder, '**', '*.' + end), recursive=True)]
     wrong = 0
     for path in sorted(files):
         with open(path, encoding='utf-8') as f:

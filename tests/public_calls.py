@@ -3,7 +3,7 @@
 
 It fails where a public function has a `requires` (what crosses a crate is to be answered, whoever calls), where it has no `ensures`,
 and where docs/STATEMENTS.md's table of public calls has not this function with these parameters, or has one that is not there. A
-function that answers nothing and is lent nothing to write to has nothing to ensure, and needs none. Before the sources it is handed
+function that answers nothing and is lent nothing to write to but standard error, as `err`, has nothing to ensure, and needs none. Before the sources it is handed
 small ones that are wrong, each of which it must tell.
 """
 import glob, os, re, sys
@@ -50,7 +50,8 @@ def faults_of(functions, listed):
     for name, names, parameters, clauses, rest in functions:
         if 'requires' in clauses:
             told.append('%s has a `requires`' % name)
-        silent = '->' not in rest and not re.search(r"&('\w+ )?mut\b", parameters)
+        lent = re.sub(r'\berr: &mut W\b', '', parameters)
+        silent = '->' not in rest and not re.search(r"&('\w+ )?mut\b", lent)
         if 'ensures' not in clauses and not silent and name not in WITHOUT_ENSURES:
             told.append('%s has no `ensures`' % name)
         if name not in listed:
@@ -101,6 +102,8 @@ def must_tell():
         (right.replace('    ensures', '    requires { x < 9 }\n    ensures'), table, ['c::m::twice has a `requires`']),
         ('pub fn twice(x: u32) -> u64 {\n    2 * (x as u64)\n}\n', table, ['c::m::twice has no `ensures`']),
         ('pub fn fill(out: &mut [u8]) {\n}\n', {'c::m::fill': ['out']}, ['c::m::fill has no `ensures`']),
+        ('pub fn say<W: Write>(err: &mut W, text: &[u8]) {\n}\n', {'c::m::say': ['err', 'text']}, []),
+        ('pub fn put<W: Write>(out: &mut W, text: &[u8]) {\n}\n', {'c::m::put': ['out', 'text']}, ['c::m::put has no `ensures`']),
         ('pub fn fill(out: &mut [u8])\n{\n    ensures();\n}\n', {'c::m::fill': ['out']}, ['c::m::fill has no `ensures`']),
         # a clause over two lines hides none after it, braces in a clause are the clause's, and a lifetime hides no function
         (right.replace('2 * x }', '2\n        * x }\n    requires { x < 9 }'), table, ['c::m::twice has a `requires`']),

@@ -37,6 +37,8 @@ def sources():
     logic, code, edits = (collections.defaultdict(lambda: collections.defaultdict(set)) for _ in range(3))
     for path in glob.glob(os.path.join(ROOT, 'crates', '*', '**', '*.*'), recursive=True):
         crate, *folders, file = os.path.relpath(path, os.path.join(ROOT, 'crates')).split(os.sep)
+        if folders[:1] == ['out']:
+            continue
         stem, end = os.path.splitext(file)
         if end == '.antt':
             logic[crate][stem] |= declared_logic(read(path))

@@ -78,7 +78,9 @@ pub fn path_end<F>(files: &Files<F>, place: usize) -> usize
 }
 
 // The system's reason for what failed last.
-pub fn reason<F>(files: &Files<F>) -> Error {
+pub fn reason<F>(files: &Files<F>) -> Error
+    ensures { result ≡ files.now.reason }
+{
     files.reason
 }
 
