@@ -196,15 +196,29 @@ fn read<F: Read>(
     }
 }
 
-fn write<R: Print>(rt: &R, size: usize, out: &[u8]) -> io::Result<()> {
+fn put_out<R: Print>(rt: &R, size: usize, out: &[u8]) -> io::Result<()> {
     if out.len() < size {
         return Err(Error::from_raw_os_error(NOTHING_FAILED));
     }
     rt.write_all(&out[..size])
 }
 
-fn rewind<F: Seek>(files: &mut Files<F>, place: usize) -> io::Result<()> {
+fn write<R: Print, F>(rt: &R, files: &mut Files<F>, size: usize, out: &[u8]) -> Event
+    ensures { ShapedDone result }
+{
+    let came = put_out(rt, size, out);
+    done(files, came)
+}
+
+fn sought<F: Seek>(files: &mut Files<F>, place: usize) -> io::Result<()> {
     file_of(files, place)?.rewind()
+}
+
+fn rewind<F: Seek>(files: &mut Files<F>, place: usize) -> Event
+    ensures { ShapedDone result }
+{
+    let came = sought(files, place);
+    done(files, came)
 }
 
 fn told<F>(files: Files<F>, event: Event) -> Performed<F>
@@ -237,13 +251,11 @@ pub fn perform<R: fs::Files + Env + Print>(
             told(files, event)
         }
         Action::Rewind(place) => {
-            let came = rewind(&mut files, place);
-            let event = done(&mut files, came);
+            let event = rewind(&mut files, place);
             told(files, event)
         }
         Action::Write(size) => {
-            let came = write(rt, size, out);
-            let event = done(&mut files, came);
+            let event = write(rt, &mut files, size, out);
             told(files, event)
         }
         Action::Stop(_) => told(files, Event::Failed),
