@@ -33,7 +33,8 @@ def faults_of(text, folder):
         if not link.startswith('http') and not is_there(link, folder):
             told.append('the link %s leads nowhere' % link)
     for path in re.findall(r'`([^`\n]+)`', text):
-        stands_for = re.search(r'\b(X|CRATE|NAME|NNN)\b|/out/', path)  # in the place of any name, or what a build makes
+        built = re.match(r'crates/(\w+)/out/', path)  # what a build makes, of a crate that is there
+        stands_for = re.search(r'\b(X|CRATE|NAME|NNN)\b', path) or (built and is_there('crates/' + built.group(1), '.'))  # in the place of any name
         if path.startswith(FOLDERS) and re.fullmatch(r'[\w./*-]+( .*)?', path) and not stands_for and not (
                 is_there(path, '.') or is_there(path, folder)):
             told.append('%s is not there' % path)

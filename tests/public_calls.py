@@ -34,13 +34,15 @@ def contract_of(text, at):
 
 
 def public_functions(module, text):
-    """of each public function its name with its module, the names of its parameters, the parameters, its clauses, and what it answers"""
+    """of each public function its name with its module, the names of its parameters, those parameters but for the writer of standard error, its
+    clauses, and what it answers"""
     found = []
-    for m in re.finditer(r'^[ \t]*pub (?:extern "C" )?fn (\w+)(?:<[^>]*>)?\(([^)]*)\)', text, re.M):
-        names = [p.split(':')[0].replace('mut ', '').strip() for p in m.group(2).split(',') if p.strip()]
+    for m in re.finditer(r'^[ \t]*pub (?:extern "C" )?fn (\w+)(?:<([^>]*)>)?\(([^)]*)\)', text, re.M):
+        names = [p.split(':')[0].replace('mut ', '').strip() for p in m.group(3).split(',') if p.strip()]
+        lent = re.sub(r'\berr: &mut W\b', '', m.group(3)) if re.search(r'\bW: [^,]*\bWrite\b', m.group(2) or '') else m.group(3)
         exported = 'extern "C"' in m.group(0)
         clauses, rest = contract_of(text, m.end())
-        found.append((m.group(1) if exported else module + '::' + m.group(1), names, m.group(2), clauses, rest))
+        found.append((m.group(1) if exported else module + '::' + m.group(1), names, lent, clauses, rest))
     return found
 
 
@@ -50,8 +52,7 @@ def faults_of(functions, listed):
     for name, names, parameters, clauses, rest in functions:
         if 'requires' in clauses:
             told.append('%s has a `requires`' % name)
-        lent = re.sub(r'\berr: &mut W\b', '', parameters)
-        silent = '->' not in rest and not re.search(r"&('\w+ )?mut\b", lent)
+        silent = '->' not in rest and not re.search(r"&('\w+ )?mut\b", parameters)
         if 'ensures' not in clauses and not silent and name not in WITHOUT_ENSURES:
             told.append('%s has no `ensures`' % name)
         if name not in listed:
@@ -103,6 +104,7 @@ def must_tell():
         ('pub fn twice(x: u32) -> u64 {\n    2 * (x as u64)\n}\n', table, ['c::m::twice has no `ensures`']),
         ('pub fn fill(out: &mut [u8]) {\n}\n', {'c::m::fill': ['out']}, ['c::m::fill has no `ensures`']),
         ('pub fn say<W: Write>(err: &mut W, text: &[u8]) {\n}\n', {'c::m::say': ['err', 'text']}, []),
+        ('pub fn say<W>(err: &mut W, text: &[u8]) {\n}\n', {'c::m::say': ['err', 'text']}, ['c::m::say has no `ensures`']),
         ('pub fn put<W: Write>(out: &mut W, text: &[u8]) {\n}\n', {'c::m::put': ['out', 'text']}, ['c::m::put has no `ensures`']),
         ('pub fn fill(out: &mut [u8])\n{\n    ensures();\n}\n', {'c::m::fill': ['out']}, ['c::m::fill has no `ensures`']),
         # a clause over two lines hides none after it, braces in a clause are the clause's, and a lifetime hides no function

@@ -208,6 +208,7 @@ def check_output():
             unanswered('a full disk and a long run, ' + command, [STATION_A, SAMPLES_A, '300000000'], UNWRITTEN + [NO_SPACE], output=full, command=command)
             unanswered('a full disk and a refusal, ' + command, [STATION_A, SAMPLES_A, 'x'], UNWRITTEN + [NO_SPACE], output=full, command=command)
     check_disk_that_fills()
+    check_told_on_a_pipe_alone()
     check_closed_pipe()
 
 
@@ -220,6 +221,21 @@ def check_disk_that_fills():
     held('a disk that fills', (b'', got.stderr.decode()), (got.returncode, NO_ANSWER), b'', UNWRITTEN + ['File too large'], got.stderr)
     if os.path.getsize(path) != most:
         fail('a disk that fills', '%d bytes were written' % os.path.getsize(path))
+
+
+def check_told_on_a_pipe_alone():
+    """The word goes to descriptor 3 where it is a pipe: no file of the caller's is written to, nor one that the program reads."""
+    station, samples, kept = file_of('told-station', content_of(STATION_A)), file_of('told.csv', content_of(SAMPLES_A)), file_of('kept', b'kept as it is\n')
+    for seconds, answer in (('5', content_of(ROWS_A)), ('x', b'refused,18,0\n')):
+        words = [PROGRAM, station, samples, seconds, '-3']
+        got = subprocess.run(words, stdout=subprocess.PIPE, stderr=subprocess.PIPE, timeout=LONGEST)
+        held('descriptor 3 not open', (got.stdout, ''), None, answer, [], b'')
+        with open(kept, 'r+b') as three:
+            got = subprocess.run(words, stdout=subprocess.PIPE, stderr=subprocess.PIPE, timeout=LONGEST, preexec_fn=lambda: os.dup2(three.fileno(), 3), close_fds=False)
+        held('a file as descriptor 3', (got.stdout, ''), None, answer, [], b'')
+        for path, content in ((station, content_of(STATION_A)), (samples, content_of(SAMPLES_A)), (kept, b'kept as it is\n')):
+            if content_of(path) != content:
+                fail('told on a pipe alone', '%s was written to' % path)
 
 
 def check_closed_pipe():

@@ -8,6 +8,7 @@ use perform::Files;
 use plain_words::texts::say;
 use std::fs;
 use std::io::Write;
+use std::os::unix::fs::FileTypeExt;
 
 // The place of the sample file among the arguments.
 const SAMPLES: usize = 2;
@@ -37,8 +38,19 @@ fn say_word<W: Write>(err: &mut W, word: Word, working: bool, files: &Files, pat
     }
 }
 
-// Where the descriptor is not open, nobody is told.
+// Whether the descriptor is a pipe, as that of bin/run is. By its path a file would be opened anew, and a caller's own written over.
+fn is_pipe(rt: &HostRuntime) -> bool {
+    match fs::metadata(rt, TOLD_ON) {
+        Ok(found) => found.file_type().is_fifo(),
+        Err(_) => false,
+    }
+}
+
+// Where the descriptor is no pipe, nobody is told.
 fn tell(rt: &HostRuntime, word: Word) {
+    if !is_pipe(rt) {
+        return;
+    }
     if let Ok(mut told) = fs::OpenOptions::new().write(true).open(rt, TOLD_ON) {
         say(&mut told, word_of(word));
     }
@@ -52,12 +64,16 @@ fn word_of(word: Word) -> &'static [u8] {
     }
 }
 
-// The word for bin/run comes last.
+// The word for bin/run comes last, once the files are closed: one of them could have the descriptor's number.
 pub(crate) fn say_end(rt: &HostRuntime, ended: Ended, paths: &[u8]) {
-    let word = ended.word;
-    let machine = ended.machine;
+    let Ended {
+        word,
+        machine,
+        files,
+    } = ended;
     let held = machine.held;
-    say_word(&mut rt.stderr(), word, held.working, &ended.files, paths);
+    say_word(&mut rt.stderr(), word, held.working, &files, paths);
+    drop(files);
     if held.told {
         tell(rt, word);
     }
