@@ -1,4 +1,4 @@
--- Words that every other file uses: a choice, ranges, masks of sets, and sums, tests and tables over places.
+-- Words that every other file uses: ranges, masks of sets, and sums, tests and tables over places. A choice, `if b then x else y`, is the library's.
 -- Places count from 0 here: the paper's set 1, whose bit is bit 0, is place 0.
 -- `-` on natural numbers stops at zero: `a - b` is the paper's max(0, a - b). `/` rounds down, as 01 says of all divisions.
 use Rattle.std.specs.Prelude.{ℕ, zero, suc, ◌+◌, ◌/◌, ◌%◌, ◌^◌, Bool, true, ◌&&◌, List, [], ◌∷◌, ◌++◌, leb, ltb, eqb, if◌then◌else◌}
