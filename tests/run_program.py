@@ -236,6 +236,19 @@ def check_told_on_a_pipe_alone():
         for path, content in ((station, content_of(STATION_A)), (samples, content_of(SAMPLES_A)), (kept, b'kept as it is\n')):
             if content_of(path) != content:
                 fail('told on a pipe alone', '%s was written to' % path)
+        # a named pipe: its reader has the word, and one who has gone is not waited for
+        named = os.path.join(OUT, 'named')
+        os.mkfifo(named)
+        reader = os.open(named, os.O_RDONLY | os.O_NONBLOCK)
+        writer = os.open(named, os.O_WRONLY)
+        three = lambda: os.dup2(writer, 3)
+        got = subprocess.run(words, stdout=subprocess.PIPE, stderr=subprocess.PIPE, timeout=LONGEST, preexec_fn=three, close_fds=False)
+        held('a named pipe as descriptor 3', (got.stdout, os.read(reader, 100).decode()), None, answer, ['complete\n' if seconds == '5' else 'refused\n'], b'')
+        os.close(reader)
+        got = subprocess.run(words, stdout=subprocess.PIPE, stderr=subprocess.PIPE, timeout=LONGEST, preexec_fn=three, close_fds=False)
+        held('a named pipe whose reader has gone', (got.stdout, ''), None, answer, [], b'')
+        os.close(writer)
+        os.remove(named)
 
 
 def check_closed_pipe():

@@ -46,12 +46,17 @@ fn is_pipe(rt: &HostRuntime) -> bool {
     }
 }
 
-// Where the descriptor is no pipe, nobody is told.
+// Where the descriptor is no pipe, nobody is told. It is opened for both ways, since opening a named pipe to write alone waits for a reader,
+// who may be gone.
 fn tell(rt: &HostRuntime, word: Word) {
     if !is_pipe(rt) {
         return;
     }
-    if let Ok(mut told) = fs::OpenOptions::new().write(true).open(rt, TOLD_ON) {
+    if let Ok(mut told) = fs::OpenOptions::new()
+        .read(true)
+        .write(true)
+        .open(rt, TOLD_ON)
+    {
         say(&mut told, word_of(word));
     }
 }
