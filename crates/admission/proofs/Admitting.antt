@@ -1,4 +1,5 @@
 -- Seconds that are admitted one after the other, as a loop counts them. Assumes nothing.
+use Rattle.std.specs.Prelude.{Ok, Err, Result}
 use Prim.Native.Nat.{ℕ, suc, ◌+◌, ◌-◌, ◌*◌, ◌≤◌, ◌<◌}
 use mathlib.Core.Path.{◌≡◌, refl, sym, ap, ◌∙◌}
 use mathlib.Core.Bool.{true, false}
@@ -8,11 +9,9 @@ use lib.ListN.{length, take, drop, length-drop}
 use lib.Seq.{take_all}
 use borrow.Author.Tests.{ltb-true}
 use lib.Dec.{ltb}
-use Rattle.rules.specs.declared.answers.Verdict.{Verdict}
-use Rattle.rules.specs.declared.answers.Verdict.TheVariants.{Accepted, Refused}
 use Rattle.rules.specs.declared.answers.Refusal.{Refusal}
 use Rattle.rules.specs.declared.run.Inputs.{Inputs}
-use Rattle.rules.specs.Answers.{accepted, is_accepted, verdict_of}
+use Rattle.rules.specs.Answers.{accepted, is_accepted, result_of}
 use Rattle.rules.specs.RunRecord.{most_seconds}
 use Rattle.rules.specs.Second.{admitted}
 use Rattle.rules.specs.Seconds.{inputs_each}
@@ -83,11 +82,11 @@ all-admitted {done} {inputs} {most} {second} {count} h l =
     sym (h.left ∙ rw (none, no_room (done + count) (drop count (inputs_each inputs)), z))
 
 -- by the verdict on it
-pub told-refused : (v : Verdict) (why : Refusal) (second : ℕ) (x : Inputs) (room : ℕ) → verdict_of v ≡ admitted second x room → v ≡ Refused why → is_accepted (admitted second x room) ≡ false
-told-refused v why second x room e is = ap is_accepted (sym e) ∙ ap (λ (k : Verdict). is_accepted (verdict_of k)) is
+pub told-refused : (v : Result (Unit {0}) Refusal) (why : Refusal) (second : ℕ) (x : Inputs) (room : ℕ) → result_of v ≡ admitted second x room → v ≡ Err why → is_accepted (admitted second x room) ≡ false
+told-refused v why second x room e is = ap is_accepted (sym e) ∙ ap (λ (k : Result (Unit {0}) Refusal). is_accepted (result_of k)) is
 
-pub told-accepted : (v : Verdict) (second : ℕ) (x : Inputs) (room : ℕ) → verdict_of v ≡ admitted second x room → v ≡ Accepted → admitted second x room ≡ accepted tt
-told-accepted v second x room e is = sym e ∙ ap verdict_of is
+pub told-accepted : (v : Result (Unit {0}) Refusal) (second : ℕ) (x : Inputs) (room : ℕ) → result_of v ≡ admitted second x room → v ≡ Ok tt → admitted second x room ≡ accepted tt
+told-accepted v second x room e is = sym e ∙ ap result_of is
 
 -- a slice from a place on
 pub rest_of : {A : Type 0} (l : List A) (n : ℕ) → take (length l - n) (drop n l) ≡ drop n l

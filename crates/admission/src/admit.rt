@@ -1,13 +1,13 @@
 // What is asked of each second, and how many of those that are asked the rules admit one after the other.
 ghost use Rattle.std.specs.Prelude.{◌≡◌, ◌*◌, ◌≤◌, length};
-ghost use Rattle.rules.specs.Answers.{verdict_of};
+ghost use Rattle.rules.specs.Answers.{result_of};
 ghost use Rattle.rules.specs.Second.{inputs_right, admitted};
 ghost use Rattle.rules.specs.Seconds.{inputs_each, came_to};
 ghost use Rattle.admission.specs.Admission.{admitted_to, admitted_of, ended_at, JudgedBy};
 
 use crate::inputs::first_inputs;
 use records::possible::possible;
-use rules::answers::{Ended, Refusal, Verdict};
+use rules::answers::{Ended, Refusal};
 use rules::limits::{LEAST_ROW_BUFFER, MOST_POWER, MOST_SECONDS, SECOND_INPUTS};
 use rules::run::{Inputs, Run};
 use rules::station::Station;
@@ -22,24 +22,24 @@ fn inputs_right(inputs: Inputs) -> bool
 }
 
 // What is asked of each second of a station and a record that were judged.
-pub fn admit(done: u32, inputs: Inputs, room: usize) -> Verdict
-    ensures { verdict_of result ≡ admitted done inputs room }
+pub fn admit(done: u32, inputs: Inputs, room: usize) -> Result<(), Refusal>
+    ensures { result_of result ≡ admitted done inputs room }
 {
     let load = inputs.load;
     let sheddable = inputs.sheddable;
     if MOST_SECONDS <= done {
-        return Verdict::Refused(Refusal::RunEnded);
+        return Err(Refusal::RunEnded);
     }
     if !inputs_right(inputs) {
-        return Verdict::Refused(Refusal::OverLimit(0));
+        return Err(Refusal::OverLimit(0));
     }
     if load < sheddable {
-        return Verdict::Refused(Refusal::SheddableAboveLoad(0));
+        return Err(Refusal::SheddableAboveLoad(0));
     }
     if room < LEAST_ROW_BUFFER {
-        return Verdict::Refused(Refusal::RowBuffer);
+        return Err(Refusal::RowBuffer);
     }
-    Verdict::Accepted
+    Ok(())
 }
 
 // How many seconds are admitted one after the other, of the first `most`, where so many are done before.
@@ -52,7 +52,7 @@ fn admitted_to(done: u32, inputs: &[u32], most: usize) -> usize
     while count < most {
         let x = first_inputs(&inputs[SECOND_INPUTS * count..]);
         let verdict = admit(second, x, LEAST_ROW_BUFFER);
-        if let Verdict::Refused(_) = verdict {
+        if let Err(_) = verdict {
             return count;
         }
         second += 1;

@@ -16,7 +16,7 @@ use refusal_words::places::{Place, place_of};
 use refusal_words::refused::say_refused;
 use refusal_words::titles::say_title;
 use rules::answers::Refusal;
-use samples::check::{Checked, Span, finish};
+use samples::check::{Span, finish};
 use std::io::Write;
 
 // The most bytes of a station file that are held.
@@ -30,10 +30,10 @@ fn say_span<W: Write>(err: &mut W, span: Span) {
     say(err, b"; the last holds until the end\n");
 }
 
-fn say_checked<W: Write>(err: &mut W, checked: Checked) {
+fn say_checked<W: Write>(err: &mut W, checked: Result<Span, Refusal>) {
     match checked {
-        Checked::Accepted(span) => say_span(err, span),
-        Checked::Refused(_) => {}
+        Ok(span) => say_span(err, span),
+        Err(_) => {}
     }
 }
 

@@ -1,12 +1,12 @@
 -- What both files' verdicts come to is what the program prints, by document 01's definitions. Assumes nothing.
+use Rattle.std.specs.Prelude.{Ok}
 use Prim.Native.Nat.{ℕ}
 use mathlib.Core.Path.{◌≡◌, refl, sym, ap, ◌∙◌}
 use mathlib.Core.List.{List, []}
 use Rattle.rules.specs.declared.answers.Refusal.{Refusal}
-use Rattle.rules.specs.declared.answers.Verdict.{Verdict}
 use Rattle.rules.specs.declared.samples.Sample.{Sample}
 use Rattle.rules.specs.declared.station.Station.{Station}
-use Rattle.rules.specs.Answers.{Answer, accepted, refused, is_accepted, judged, refusal_of, verdict_of, ◌>>=◌}
+use Rattle.rules.specs.Answers.{Answer, accepted, refused, is_accepted, judged, refusal_of, result_of, ◌>>=◌}
 use Rattle.rules.specs.StationFile.{station_file}
 use Rattle.rules.specs.SampleFile.{sample_file}
 use Rattle.rules.specs.Row.{refusal_line}
@@ -39,7 +39,7 @@ pub record Reads (a : Answer Station) : Type 0 where
   pub station : Station
   pub is : a ≡ accepted station
 
-pub station-accepted : (a : Answer Station) → verdict_of Verdict.Accepted ≡ judged a → Reads a
+pub station-accepted : (a : Answer Station) → result_of (Ok tt) ≡ judged a → Reads a
 station-accepted (accepted st) e = record { station = st; is = refl }
 station-accepted (refused number place) e = never (sym (ap is_accepted e))
 

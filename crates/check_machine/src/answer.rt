@@ -5,8 +5,8 @@ use crate::line_search::no_line;
 use crate::state::{Held, Machine, Stage, stopped};
 use exchange::action::{Why, Word};
 use rows::run_lines::{put_accepted, put_refused};
-use rules::answers::{Outcome, Refusal, Verdict};
-use samples::check::{Checked, finish};
+use rules::answers::Refusal;
+use samples::check::finish;
 use station::chunks::station_of;
 use words::refusals::number_and_place;
 
@@ -14,7 +14,7 @@ fn accept(held: Held, out: &mut [u8]) -> Machine
     ensures { Accepts out.old result out.new }
 {
     let put = put_accepted(out);
-    let Outcome::Row(size) = put else {
+    let Ok(size) = put else {
         return stopped(held, Why::SmallBuffer);
     };
     Machine {
@@ -27,7 +27,7 @@ fn refuse(held: Held, refusal: Refusal, out: &mut [u8]) -> Machine
     ensures { Refuses refusal out.old result out.new }
 {
     let put = put_refused(refusal, out);
-    let Outcome::Row(size) = put else {
+    let Ok(size) = put else {
         return stopped(held, Why::SmallBuffer);
     };
     Machine {
@@ -44,7 +44,7 @@ fn refuse_line(held: Held, refusal: Refusal, line: u64, out: &mut [u8]) -> Machi
         return refuse(held, refusal, out);
     }
     let put = put_refused(refusal, out);
-    let Outcome::Row(size) = put else {
+    let Ok(size) = put else {
         return stopped(held, Why::SmallBuffer);
     };
     let sought = no_line(line - 1);
@@ -64,8 +64,8 @@ fn answer_samples(held: Held, out: &mut [u8]) -> Machine
     let read = judging.held;
     let checked = finish(read.check);
     match checked {
-        Checked::Accepted(_) => accept(held, out),
-        Checked::Refused(refusal) => {
+        Ok(_) => accept(held, out),
+        Err(refusal) => {
             let place = number_and_place(refusal);
             refuse_line(held, refusal, place.1, out)
         }
@@ -81,7 +81,7 @@ pub(crate) fn answer(held: Held, out: &mut [u8]) -> Machine
     let station = station_of(read.file);
     let verdict = station.verdict;
     match verdict {
-        Verdict::Accepted => answer_samples(held, out),
-        Verdict::Refused(refusal) => refuse(held, refusal, out),
+        Ok(()) => answer_samples(held, out),
+        Err(refusal) => refuse(held, refusal, out),
     }
 }

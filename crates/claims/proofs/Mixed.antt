@@ -1,9 +1,9 @@
 -- THE THEOREM of demand 3 of lists in which calls of one second and of many are mixed, of the functions themselves. All that is known of a
 -- call is what the function's own contract says. Assumes nothing.
+use Rattle.std.specs.Prelude.{Ok}
 use Prim.Native.Nat.{ℕ}
 use mathlib.Core.Path.{◌≡◌}
 use mathlib.Core.List.{List}
-use Rattle.rules.specs.declared.answers.Verdict.TheVariants.{Accepted}
 use Rattle.rules.specs.declared.station.Station.{Station}
 use Rattle.rules.specs.declared.run.Run.{Run}
 use Rattle.rules.specs.RunRecord.{start_record}
@@ -37,7 +37,7 @@ batches-owe st (more {r = r} {b = b} o rest) = more (batch-owes st r b o) (batch
 -- ---- the theorem
 
 every-list : (file : List ℕ) (g : Reading) (s : Started) (bs : List Batch) (last : Run)
-    → ReadBy file g → g.verdict ≡ Accepted → StartedBy g.station s → ChainedBatches (BatchBy g.station) s.run bs last
+    → ReadBy file g → g.verdict ≡ Ok tt → StartedBy g.station s → ChainedBatches (BatchBy g.station) s.run bs last
     → FromFile file g s × ClaimBatches g.station s.run bs last
 every-list file g s bs last read accepts starts chained =
     let b : Begun file g s = begun file g s read accepts starts in

@@ -1,10 +1,10 @@
 -- THE THEOREM of demand 3 of the printed text. All that is known of a call is what the function's own contract says. Assumes nothing.
+use Rattle.std.specs.Prelude.{Ok}
 use Prim.Native.Nat.{ℕ}
 use mathlib.Core.Path.{◌≡◌, refl, ap, ◌∙◌}
 use mathlib.Core.List.{List, [], ◌∷◌, ◌++◌, map}
 use native.Mathlib.Omega.{arith}
 use lib.ListN.{length, drop, get_or, replicate}
-use Rattle.rules.specs.declared.answers.Verdict.TheVariants.{Accepted}
 use Rattle.rules.specs.declared.station.Station.{Station}
 use Rattle.rules.specs.declared.samples.Sample.{Sample}
 use Rattle.rules.specs.declared.run.Inputs.{Inputs}
@@ -36,7 +36,7 @@ unfolding start_record
 first_done st = refl
 
 of_calls : (station samples seconds : List ℕ) (g : Reading) (s : Started) (rows : List Sample) (n : ℕ) (calls : List Call) (last : Run)
-    → ReadBy station g → g.verdict ≡ Accepted → StartedBy g.station s → sample_file samples ≡ accepted rows → seconds_asked seconds ≡ accepted n
+    → ReadBy station g → g.verdict ≡ Ok tt → StartedBy g.station s → sample_file samples ≡ accepted rows → seconds_asked seconds ≡ accepted n
     → Chained (CalledBy g.station) s.run calls last → CallsOf rows n calls
     → printed station samples seconds ≡ text_of g.station calls last
 of_calls station samples seconds g s rows n calls last read accepts starts sampled asked chained of =

@@ -1,6 +1,5 @@
 -- DEMAND 3 of lists in which calls of one second and calls of many are mixed. Definitions only; proofs/Mixed.antt has the theorem.
-use Rattle.std.specs.Prelude.{ℕ, ◌≡◌, List, map}
-use Rattle.rules.specs.declared.answers.Verdict.TheVariants.{Accepted}
+use Rattle.std.specs.Prelude.{ℕ, ◌≡◌, List, map, Ok}
 use Rattle.rules.specs.declared.station.Station.{Station}
 use Rattle.rules.specs.declared.run.Run.{Run}
 use Rattle.rules.specs.Answers.{accepted}
@@ -34,7 +33,7 @@ handed_to (many m) = many (record { inputs = m.inputs; lent = m.lent })
 pub record RealisedMixed (file : List ℕ) (handed : List Handing) : Type 0 where
   pub reading : Reading
   pub was_read : ReadBy file reading
-  pub was-accepted : reading.verdict ≡ Accepted
+  pub was-accepted : reading.verdict ≡ Ok tt
   pub started : Started
   pub was-started : StartedBy reading.station started
   pub from-file : FromFile file reading started
@@ -48,6 +47,6 @@ pub record RealisedMixed (file : List ℕ) (handed : List Handing) : Type 0 wher
 pub record MixedDemand3 : Type 0 where
   pub any-arguments : AskNothing
   pub every-list : (file : List ℕ) (g : Reading) (s : Started) (batches : List Batch) (last : Run)
-      → ReadBy file g → g.verdict ≡ Accepted → StartedBy g.station s → ChainedBatches (BatchBy g.station) s.run batches last
+      → ReadBy file g → g.verdict ≡ Ok tt → StartedBy g.station s → ChainedBatches (BatchBy g.station) s.run batches last
       → FromFile file g s × ClaimBatches g.station s.run batches last
   pub lists-exist : (file : List ℕ) (st : Station) → station_file file ≡ accepted st → (handed : List Handing) → RealisedMixed file handed

@@ -1,7 +1,6 @@
 -- DEMAND 3 of what a clerk holds in hand: of the text that `Run.printed` gives, which is what the run program hands over to be written.
 -- Definitions only; proofs/Printed.antt has the theorem.
-use Rattle.std.specs.Prelude.{ℕ, ◌≡◌, List, map, replicate}
-use Rattle.rules.specs.declared.answers.Verdict.TheVariants.{Accepted}
+use Rattle.std.specs.Prelude.{ℕ, ◌≡◌, List, map, replicate, Ok}
 use Rattle.rules.specs.declared.station.Station.{Station}
 use Rattle.rules.specs.declared.samples.Sample.{Sample}
 use Rattle.rules.specs.declared.run.Inputs.{Inputs}
@@ -33,7 +32,7 @@ pub record PrintedDemand3 : Type 0 where
       → Printed st rows n (printed station samples seconds)
   -- the text is the heading, the rows and the sets' lines of every list of calls of those seconds, with any buffers that have room
   pub of_calls : (station samples seconds : List ℕ) (g : Reading) (s : Started) (rows : List Sample) (n : ℕ) (calls : List Call) (last : Run)
-      → ReadBy station g → g.verdict ≡ Accepted → StartedBy g.station s → sample_file samples ≡ accepted rows → seconds_asked seconds ≡ accepted n
+      → ReadBy station g → g.verdict ≡ Ok tt → StartedBy g.station s → sample_file samples ≡ accepted rows → seconds_asked seconds ≡ accepted n
       → Chained (CalledBy g.station) s.run calls last → CallsOf rows n calls
       → printed station samples seconds ≡ text_of g.station calls last
   -- and there is such a list

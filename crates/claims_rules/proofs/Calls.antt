@@ -13,7 +13,7 @@ use Rattle.rules.specs.declared.station.Station.{Station}
 use Rattle.rules.specs.declared.run.Inputs.{Inputs}
 use Rattle.rules.specs.declared.run.Run.{Run}
 use Rattle.rules.specs.declared.run.Step.{Step}
-use Rattle.rules.specs.Answers.{Answer, accepted, refused, ◌>>◌, outcome_of}
+use Rattle.rules.specs.Answers.{Answer, accepted, refused, ◌>>◌, result_of}
 use Rattle.rules.specs.StationRecord.{some_file_gives}
 use Rattle.rules.specs.RunRecord.{most_seconds, possible}
 use Rattle.rules.specs.Row.{row_text}
@@ -89,7 +89,7 @@ module _ (st : Station) (given : some_file_gives st ≡ true) (tables : Tables s
     answer-is : second st r c.inputs (length c.lent) ≡ answer
     answer-is = judged-is st r c.inputs (length c.lent) given was-possible
 
-    answers : outcome_of c.handed.answer ≡ length_answered answer
+    answers : result_of c.handed.answer ≡ length_answered answer
     answers = o.answers ∙ ap length_answered answer-is
 
     pub hands : c.handed.run ≡ record_handed r answer

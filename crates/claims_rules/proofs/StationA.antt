@@ -1,5 +1,6 @@
 -- The claim's own words on Station A's five seconds, by computation: what the rows show, what follows from them, and what the rules
 -- give from the start where calls are refused between the rows, or are of many seconds. Assumes nothing.
+use Rattle.std.specs.Prelude.{Ok}
 use Prim.Native.Nat.{ℕ}
 use mathlib.Core.Path.{◌≡◌, refl}
 use mathlib.Core.List.{List, [], ◌∷◌, ◌++◌}
@@ -24,7 +25,6 @@ use Rattle.rules.specs.StationFile
 use Rattle.rules.specs.StationRecord
 use Rattle.rules.specs.declared.answers.Ended.{Ended}
 use Rattle.rules.specs.declared.answers.Ended.TheVariants.{AllWorked, NoRoom, BeforeRefused}
-use Rattle.rules.specs.declared.answers.Outcome.TheVariants.{Row}
 use Rattle.rules.specs.declared.run.Inputs.{Inputs}
 use Rattle.rules.specs.Answers.{accepted, refused}
 use Rattle.rules.specs.Bytes.{bytes}
@@ -118,7 +118,7 @@ made_many : List ℕ → ℕ → List ℕ → Ended → Batch
 made_many inputs seconds left ended = many (record { inputs = inputs; lent = []; worked = record { run = start_record record_a; seconds = seconds; ended = ended }; left = left })
 
 made_one : Inputs → List ℕ → Batch
-made_one x text = one (record { inputs = x; lent = []; handed = record { answer = Row (length text); run = start_record record_a }; left = text })
+made_one x text = one (record { inputs = x; lent = []; handed = record { answer = Ok (length text); run = start_record record_a }; left = text })
 
 numbers-show : rows_in_batches
     (made_many (40000 ∷ 10000 ∷ 0 ∷ 75000 ∷ 10000 ∷ 5000 ∷ []) 1 (numbers0 ++ replicate 12 7) NoRoom

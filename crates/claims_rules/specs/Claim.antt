@@ -6,7 +6,7 @@ use Rattle.rules.specs.declared.run.Inputs.{Inputs}
 use Rattle.rules.specs.declared.run.Run.{Run}
 use Rattle.rules.specs.declared.run.Step.{Step}
 use Rattle.rules.specs.declared.run.Totals.{Totals}
-use Rattle.rules.specs.Answers.{Answer, accepted, refused, ◌>>◌, outcome_of}
+use Rattle.rules.specs.Answers.{Answer, accepted, refused, ◌>>◌, result_of}
 use Rattle.rules.specs.StationRecord.{set_at}
 use Rattle.rules.specs.Modes.{state_at}
 use Rattle.rules.specs.RunRecord.{start_record, possible}
@@ -26,7 +26,7 @@ told_by (accepted size) left = accepted (take size left)
 told_by (refused number place) left = refused number place
 
 abbrev pub told : Call → Answer (List ℕ)
-told c = told_by (outcome_of c.handed.answer) c.left
+told c = told_by (result_of c.handed.answer) c.left
 
 -- "A row is what an accepted second wrote": the accepted ones of a list
 abbrev pub worked_by : Answer (List ℕ) → Inputs → List Worked → List Worked
@@ -144,7 +144,7 @@ KeptBy (refused number place) r c = Unmoved r c
 
 -- one call
 pub record Kept (r : Run) (c : Call) : Type 0 where
-  pub by_answer : KeptBy (outcome_of c.handed.answer) r c
+  pub by_answer : KeptBy (result_of c.handed.answer) r c
   pub length-stays : length c.left ≡ length c.lent
 
 -- of a list of calls from the record `first` to the record `last`

@@ -1,9 +1,7 @@
 -- "Modes, clocks and held setpoint follow by steps 1, 8, 9 and 11 from station, inputs and rows, not the record": the steps are the
 -- rules' own, over the numbers that the rows show; the clock is counted from the rows' masks.
-use Rattle.std.specs.Prelude.{ℕ, ◌+◌, ◌-◌, Bool, not, ◌&&◌, List, [], ◌∷◌, eqb, Float, get_or, replicate, if◌then◌else◌}
+use Rattle.std.specs.Prelude.{ℕ, ◌+◌, ◌-◌, Bool, not, ◌&&◌, List, [], ◌∷◌, eqb, Float, get_or, replicate, if◌then◌else◌, Some, None, Option}
 use Rattle.rules.specs.declared.station.Station.{Station}
-use Rattle.rules.specs.declared.run.Held.{Held}
-use Rattle.rules.specs.declared.run.Held.TheVariants.{Absent, At}
 use Rattle.rules.specs.declared.run.Mode.{Mode}
 use Rattle.rules.specs.declared.run.Mode.TheVariants.{Off, On}
 use Rattle.rules.specs.declared.run.Run.{Run}
@@ -22,7 +20,7 @@ pub record Replay : Type 0 where
   pub sets : List SetState
   -- of each set the seconds run since its last service
   pub clocks : List ℕ
-  pub setpoint : Held
+  pub setpoint : Option Float
   -- of the row before
   pub store : ℕ
   pub called : ℕ
@@ -37,7 +35,7 @@ at_first st =
       second = 0;
       sets = tab 8 (λ i. fresh (if has st.control.online i then On else Off));
       clocks = replicate 8 0;
-      setpoint = Absent;
+      setpoint = None;
       store = st.battery.start;
       called = 0;
       changed = 0;
@@ -77,7 +75,7 @@ following st p s =
       second = p.second + 1;
       sets = commanded_all st.sets (counts_in st p s) (mask_called st.configs s.row.call);
       clocks = clocks_in st p s;
-      setpoint = At (held_in st p s);
+      setpoint = Some (held_in st p s);
       store = s.row.store;
       called = s.row.call;
       changed = if eqb s.row.call p.called then p.changed else p.second;

@@ -3,7 +3,7 @@ ghost use Rattle.commitment.specs.Commit.{CommittedBy};
 
 use crate::configuration::chosen;
 use crate::setpoint::{held_after, wanted_for};
-use rules::run::{Held, Watts};
+use rules::run::Watts;
 use rules::station::Station;
 use words::arithmetic::over_u32;
 
@@ -20,7 +20,7 @@ pub fn commit(
     st: Station,
     caps: &[u32; 64],
     barred: u32,
-    setpoint: Held,
+    setpoint: Option<f64>,
     called: usize,
     since: u32,
     second: u32,

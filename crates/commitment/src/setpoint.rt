@@ -2,7 +2,7 @@
 ghost use Rattle.std.specs.Prelude.{◌≡◌};
 ghost use Rattle.rules.specs.Setpoint.{coverage_of, reserve, wanted_for, filter_of, filtered, held_after};
 
-use rules::run::{Filter, Held};
+use rules::run::Filter;
 use rules::station::Control;
 use words::arithmetic::{larger, over};
 
@@ -54,12 +54,12 @@ fn filtered(f: Filter, wanted: f64) -> Filter
 
 // The held setpoint after a second in which so much is wanted, in W: what is wanted of numbers that no file gives may be beyond the
 // whole numbers of a double.
-pub fn held_after(k: u32, setpoint: Held, wanted: u64) -> f64
+pub fn held_after(k: u32, setpoint: Option<f64>, wanted: u64) -> f64
     ensures { result ≡ held_after k setpoint wanted }
 {
     let asked = std::num::nearest_u64_to_f64(wanted);
     match setpoint {
-        Held::Absent => asked,
-        Held::At(held) => filtered(filter_of(k, held), asked).held,
+        None => asked,
+        Some(held) => filtered(filter_of(k, held), asked).held,
     }
 }

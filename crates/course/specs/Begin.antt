@@ -2,7 +2,7 @@
 use Rattle.std.specs.Prelude.{ℕ, ◌≡◌, List}
 use Rattle.rules.specs.declared.run.Run.{Run}
 use Rattle.rules.specs.declared.station.Station.{Station}
-use Rattle.rules.specs.Answers.{Answer, accepted, refused, verdict_of, value_or}
+use Rattle.rules.specs.Answers.{Answer, accepted, refused, result_of, value_or}
 use Rattle.rules.specs.StationRecord.{no_station}
 use Rattle.rules.specs.RunRecord.{start}
 use Rattle.rules.specs.SampleFile.{before_all}
@@ -25,11 +25,11 @@ pub record Before (st : Station) (run : Run) (seconds : ℕ) (c : Course) : Type
 
 -- whichever was refused, what is handed back is of no station and no run, and no second is left
 pub record Refuses (number place : ℕ) (b : Begun) : Type 0 where
-  pub verdict-is : verdict_of b.verdict ≡ refused number place
+  pub verdict-is : result_of b.verdict ≡ refused number place
   pub nothing : Before no_station no_run 0 b.course
 
 pub record Starting (st : Station) (seconds : ℕ) (b : Begun) : Type 0 where
-  pub verdict-is : verdict_of b.verdict ≡ accepted tt
+  pub verdict-is : result_of b.verdict ≡ accepted tt
   pub course-is : Before st (value_or no_run (start st)) seconds b.course
 
 -- by what the station file, the sample file and the seconds asked come to, in this order

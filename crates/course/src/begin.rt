@@ -1,18 +1,17 @@
 // What two files and the seconds asked come to: "station first", then the samples; the seconds asked "after the files".
 ghost use Rattle.std.specs.Prelude.{[], ◌≤◌};
-ghost use Rattle.rules.specs.Answers.{number_and_place, value_or};
+ghost use Rattle.rules.specs.Answers.{number_and_place, value_or, result_of};
 ghost use Rattle.rules.specs.Run.{seconds_asked};
-ghost use Rattle.samples.specs.Streamed.{checked_of};
 ghost use Rattle.station.specs.Stations.{station_with};
 ghost use Rattle.course.specs.Begin.{Refuses, Starting, BegunAs, AskedAs};
 
+use samples::check::Span;
 use crate::state::Course;
 use arguments::seconds::seconds_asked;
 use input_source::source::inputs;
 use records::start::start;
-use rules::answers::{Amount, Refusal, Verdict};
+use rules::answers::Refusal;
 use rules::station::Station;
-use samples::check::Checked;
 use station::chunks::{StationBytes, station_of};
 use station::reader::no_station;
 
@@ -20,7 +19,7 @@ use station::reader::no_station;
 #[derive(Clone, Copy)]
 pub struct Begun {
     pub course: Course,
-    pub verdict: Verdict,
+    pub verdict: Result<(), Refusal>,
 }
 
 // Before second 0, with so many seconds to work.
@@ -49,7 +48,7 @@ fn refused(refusal: Refusal) -> Begun
     let course = at_start(no_station(), 0);
     Begun {
         course,
-        verdict: Verdict::Refused(refusal),
+        verdict: Err(refusal),
     }
 }
 
@@ -60,7 +59,7 @@ fn starting(station: Station, seconds: u64) -> Begun
     let course = at_start(station, seconds as u32);
     Begun {
         course,
-        verdict: Verdict::Accepted,
+        verdict: Ok(()),
     }
 }
 
@@ -69,22 +68,22 @@ fn asked_for(station: Station, asked: &[u8]) -> Begun
 {
     let amount = seconds_asked(asked);
     match amount {
-        Amount::Value(seconds) => starting(station, seconds),
-        Amount::Refused(refusal) => refused(refusal),
+        Ok(seconds) => starting(station, seconds),
+        Err(refusal) => refused(refusal),
     }
 }
 
 // The course, once both files have come to their end. Where the station is refused, nothing is asked of the samples.
-pub fn course_of(file: StationBytes, checked: Checked, asked: &[u8]) -> Begun
-    ensures { BegunAs (station_with file []) (checked_of checked) (seconds_asked asked.now) result }
+pub fn course_of(file: StationBytes, checked: Result<Span, Refusal>, asked: &[u8]) -> Begun
+    ensures { BegunAs (station_with file []) (result_of checked) (seconds_asked asked.now) result }
 {
     let reading = station_of(file);
     let station = reading.station;
     let verdict = reading.verdict;
-    if let Verdict::Refused(refusal) = verdict {
+    if let Err(refusal) = verdict {
         return refused(refusal);
     }
-    if let Checked::Refused(refusal) = checked {
+    if let Err(refusal) = checked {
         return refused(refusal);
     }
     asked_for(station, asked)

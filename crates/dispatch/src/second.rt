@@ -6,7 +6,7 @@ use commitment::configuration::capacities;
 use moments::parts::{moment_of, whole};
 use records::possible::possible;
 use rows::row::put_row;
-use rules::answers::{Outcome, Refusal, Verdict};
+use rules::answers::Refusal;
 use rules::run::{Handed, Inputs, Run};
 use rules::station::Station;
 use station_record::record::some_file_gives;
@@ -18,20 +18,20 @@ pub fn second(st: Station, run: Run, inputs: Inputs, row: &mut [u8]) -> Handed
 {
     if !some_file_gives(st) {
         return Handed {
-            answer: Outcome::Refused(Refusal::StationRecord),
+            answer: Err(Refusal::StationRecord),
             run,
         };
     }
     if !possible(st, run) {
         return Handed {
-            answer: Outcome::Refused(Refusal::RunRecord),
+            answer: Err(Refusal::RunRecord),
             run,
         };
     }
     let verdict = admit(run.done, inputs, row.len());
-    if let Verdict::Refused(refusal) = verdict {
+    if let Err(refusal) = verdict {
         return Handed {
-            answer: Outcome::Refused(refusal),
+            answer: Err(refusal),
             run,
         };
     }

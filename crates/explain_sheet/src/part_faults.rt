@@ -5,7 +5,7 @@ use plain_words::numbers::{number, number_from_one};
 use plain_words::shown::show;
 use plain_words::texts::say;
 use rules::limits::{MOST_POWER, MOST_TIME};
-use sheet::numbers::{CellValue, cell_under};
+use sheet::numbers::{CellFault, cell_under};
 use sheet_headings::headings::name_of;
 use std::io::Write;
 
@@ -22,17 +22,17 @@ pub enum PartFault {
 // What `name_of` answers for a heading that is none of the names.
 const NO_NAME: u8 = 4;
 
-fn is_malformed(value: CellValue) -> bool {
+fn is_malformed(value: Result<u32, CellFault>) -> bool {
     match value {
-        CellValue::Value(_) | CellValue::OverLimit => false,
-        CellValue::Malformed => true,
+        Ok(_) | Err(CellFault::OverLimit) => false,
+        Err(CellFault::Malformed) => true,
     }
 }
 
-fn is_over_limit(value: CellValue) -> bool {
+fn is_over_limit(value: Result<u32, CellFault>) -> bool {
     match value {
-        CellValue::Value(_) | CellValue::Malformed => false,
-        CellValue::OverLimit => true,
+        Ok(_) | Err(CellFault::Malformed) => false,
+        Err(CellFault::OverLimit) => true,
     }
 }
 

@@ -1,19 +1,19 @@
 -- Calls of the fuel rate one after the other: what they were asked, and what they answered together.
-use Rattle.std.specs.Prelude.{ℕ, ◌+◌, ◌*◌, ◌≤◌, ◌≡◌, List, [], ◌∷◌}
+use Rattle.std.specs.Prelude.{ℕ, ◌+◌, ◌*◌, ◌≤◌, ◌≡◌, List, [], ◌∷◌, Ok, Err, Result}
 use Rattle.rules.specs.declared.station.GenSet.{GenSet}
-use Rattle.gensets.specs.declared.fuel.Rate.{Rate}
 use Rattle.gensets.specs.Leaves.{rate_told}
+use Rattle.gensets.specs.declared.fuel.NoRate.{NoRate}
 
 -- a second's power and the answer for it
 pub record RateCall : Type 0 where
   pub power : ℕ
-  pub answer : Rate
+  pub answer : Result ℕ NoRate
 
 -- the rate of an answer, and 0 where it has none
-abbrev pub per_hour : Rate → ℕ
-per_hour (Rate.PerHour rate) = rate
-per_hour Rate.OverTwiceRating = 0
-per_hour Rate.OutOfRange = 0
+abbrev pub per_hour : Result ℕ NoRate → ℕ
+per_hour (Ok rate) = rate
+per_hour (Err NoRate.OverTwiceRating) = 0
+per_hour (Err NoRate.OutOfRange) = 0
 
 -- each call at most at twice the rating, and of its answer no more is known than the contract says
 unfoldable pub Answered : GenSet → List RateCall → Type 0

@@ -1,14 +1,14 @@
 -- What the shares of a mask and the rate of a set are for any record, also one that no file gives.
 -- Document 01 gives both for a station of some file. Here the answer has a case of its own for numbers that no file gives, where
 -- they would lead the arithmetic astray, and one for a power above what the rule is for: neither is a refusal of the paper.
-use Rattle.std.specs.Prelude.{ℕ, suc, ◌*◌, ◌≤◌, ◌<◌, ◌≡◌, Bool, not, ◌&&◌, List, [], ◌∷◌, leb, ltb, replicate, if◌then◌else◌}
+use Rattle.std.specs.Prelude.{ℕ, suc, ◌*◌, ◌≤◌, ◌<◌, ◌≡◌, Bool, not, ◌&&◌, List, [], ◌∷◌, leb, ltb, replicate, if◌then◌else◌, Ok, Err, Result}
 use Rattle.rules.specs.declared.station.GenSet.{GenSet}
 use Rattle.rules.specs.Numbers.{within, tab, all_hold}
 use Rattle.rules.specs.Share.{capacity, share}
 use Rattle.rules.specs.Fuel.{load_at, rate_at, lower_point, fuel_rate}
 use Rattle.gensets.specs.declared.share.Sharing.{Sharing}
 use Rattle.gensets.specs.declared.share.ShareAnswer.{ShareAnswer}
-use Rattle.gensets.specs.declared.fuel.Rate.{Rate}
+use Rattle.gensets.specs.declared.fuel.NoRate.{NoRate}
 
 -- ---- step 6: "each takes diesel x C / cap less the same at the set before"
 
@@ -50,8 +50,8 @@ unfoldable pub rateable : GenSet → ℕ → Bool
 rateable g power = within 2 5 g.points && line_right g (lower_point g power)
 
 -- up to twice the rating
-unfoldable pub rate_told : GenSet → ℕ → Rate
+unfoldable pub rate_told : GenSet → ℕ → Result ℕ NoRate
 rate_told g power =
-    if not (rateable g power) then Rate.OutOfRange else
-    if ltb (2 * g.rating) power then Rate.OverTwiceRating else
-    Rate.PerHour (fuel_rate g power)
+    if not (rateable g power) then Err NoRate.OutOfRange else
+    if ltb (2 * g.rating) power then Err NoRate.OverTwiceRating else
+    Ok (fuel_rate g power)

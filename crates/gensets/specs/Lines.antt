@@ -1,10 +1,10 @@
 -- The line between two points of a set's curve in whole numbers (step 8 of document 01), and the rate on it, of any numbers.
-use Rattle.std.specs.Prelude.{ℕ, suc, ◌*◌, ◌/◌, Bool, ◌&&◌, List, [], ◌∷◌, pos, ◌+ℤ◌, ◌-ℤ◌, ◌*ℤ◌, leb, ltb, if◌then◌else◌}
+use Rattle.std.specs.Prelude.{ℕ, suc, ◌*◌, ◌/◌, Bool, ◌&&◌, List, [], ◌∷◌, pos, ◌+ℤ◌, ◌-ℤ◌, ◌*ℤ◌, leb, ltb, if◌then◌else◌, Ok, Err, Result}
 use Rattle.rules.specs.declared.station.GenSet.{GenSet}
 use Rattle.rules.specs.Numbers.{within, all_hold}
 use Rattle.rules.specs.Fuel.{load_at, rate_at, step_at, not_below_zero}
-use Rattle.gensets.specs.declared.fuel.Rate.{Rate}
 use Rattle.gensets.specs.declared.line.Line.{Line}
+use Rattle.gensets.specs.declared.fuel.NoRate.{NoRate}
 
 -- through the points j and j + 1: "The exact load, power x 1000 / rating as a fraction, is used", so loads are times the rating
 abbrev pub line_from : GenSet → ℕ → Line
@@ -27,5 +27,5 @@ unfoldable pub height_of : Line → ℕ → ℕ
 height_of line at = not_below_zero (pos (line.first * line.width) +ℤ (pos line.second -ℤ pos line.first) *ℤ (pos at -ℤ pos line.start))
 
 -- "rounded down to mL/h"; up to twice the greatest rating
-unfoldable pub rate_on : Line → ℕ → Rate
-rate_on line at = if line_small line && leb at 20_000_000_000 then Rate.PerHour (height_of line at / line.width) else Rate.OutOfRange
+unfoldable pub rate_on : Line → ℕ → Result ℕ NoRate
+rate_on line at = if line_small line && leb at 20_000_000_000 then Ok (height_of line at / line.width) else Err NoRate.OutOfRange

@@ -8,11 +8,9 @@ use crate::line::{line_of, product, rate_on};
 use rules::station::GenSet;
 use station_fields::ranges;
 
-// What a set burns at a power.
+// Why a set has no rate at a power.
 #[derive(Clone, Copy)]
-pub enum Rate {
-    // mL/h, rounded down
-    PerHour(u64),
+pub enum NoRate {
     // the power is above twice the rating, to which the curve is followed
     OverTwiceRating,
     // the set's numbers are outside the rules of a file
@@ -20,13 +18,13 @@ pub enum Rate {
 }
 
 // The rate itself, and 0 where there is none.
-pub fn per_hour(rate: Rate) -> u64
+pub fn per_hour(rate: Result<u64, NoRate>) -> u64
     ensures { result ≡ per_hour rate }
 {
     match rate {
-        Rate::PerHour(burns) => burns,
-        Rate::OverTwiceRating => 0,
-        Rate::OutOfRange => 0,
+        Ok(burns) => burns,
+        Err(NoRate::OverTwiceRating) => 0,
+        Err(NoRate::OutOfRange) => 0,
     }
 }
 
@@ -64,21 +62,21 @@ fn line_right(g: GenSet, j: usize) -> bool
 }
 
 // The rate at a power, of any record.
-pub fn fuel_rate(g: GenSet, power: u32) -> Rate
+pub fn fuel_rate(g: GenSet, power: u32) -> Result<u64, NoRate>
     ensures { result ≡ rate_told g power }
 {
     if g.points < ranges::POINTS_LEAST {
-        return Rate::OutOfRange;
+        return Err(NoRate::OutOfRange);
     }
     if ranges::POINTS_MOST < g.points {
-        return Rate::OutOfRange;
+        return Err(NoRate::OutOfRange);
     }
     let j = lower_point(g, power);
     if !line_right(g, j) {
-        return Rate::OutOfRange;
+        return Err(NoRate::OutOfRange);
     }
     if 2 * g.rating < power {
-        return Rate::OverTwiceRating;
+        return Err(NoRate::OverTwiceRating);
     }
     rate_on(line_of(g, j), product(power, 1000))
 }

@@ -2,7 +2,7 @@
 ghost use Rattle.std.specs.Prelude.{◌≡◌, true, ◌*◌, ◌≤◌};
 ghost use Rattle.gensets.specs.Lines.{line_of, line_small, height_of, rate_on};
 
-use crate::fuel::Rate;
+use crate::fuel::NoRate;
 use rules::station::GenSet;
 use station_fields::ranges;
 use words::arithmetic::over_u32;
@@ -82,14 +82,14 @@ fn height(line: Line, at: u64) -> u64
 }
 
 // The rate on a line at a power x 1000, of any numbers.
-pub fn rate_on(line: Line, at: u64) -> Rate
+pub fn rate_on(line: Line, at: u64) -> Result<u64, NoRate>
     ensures { result ≡ rate_on line at }
 {
     if !is_small(line) {
-        return Rate::OutOfRange;
+        return Err(NoRate::OutOfRange);
     }
     if MOST_AT < at {
-        return Rate::OutOfRange;
+        return Err(NoRate::OutOfRange);
     }
-    Rate::PerHour(height(line, at) / line.width)
+    Ok(height(line, at) / line.width)
 }

@@ -1,4 +1,5 @@
 -- The seconds that usual rows tell: the row in force holds for one more, or the next row comes into force and one more is read. Assumes nothing.
+use Rattle.std.specs.Prelude.{Some}
 use Prim.Native.Nat.{ℕ, suc, min, ◌+◌, ◌≤◌, ◌<◌}
 use mathlib.Core.Path.{◌≡◌, refl, sym, ap, subst, ◌∙◌}
 use mathlib.Core.Bool.{true}
@@ -16,7 +17,6 @@ use Rattle.rows_in_force.specs.declared.in_force.Ahead.{Ahead}
 use Rattle.rows_in_force.specs.declared.in_force.Begun.{Begun}
 use Rattle.input_source.specs.declared.source.InputSource.{InputSource}
 use Rattle.rows_in_force.specs.declared.in_force.FillState.{FillState}
-use Rattle.sheet_stages.specs.declared.stage.Found.{Found}
 use Rattle.sheet_stages.specs.ToCome.{most_place, RowsRead, row_first}
 use Rattle.usual_rows.specs.Usual.{UsualLater}
 use Rattle.sample_rows.specs.Streamed.{yet_to_come}
@@ -58,9 +58,9 @@ module _ (columns : Columns) (lines : ℕ) (now x : Sample) (next i : ℕ) (chun
   then = fill_state_at columns (min (suc lines) most_place) x y after i
 
   -- the rows after the one that comes into force
-  rows_then : (rest : List ℕ) → source_rows (filled_at told line).source (drop next chunk ++ rest) ≡ row_first (Found.Row x) (source_rows (filled_at then line).source (drop after chunk ++ rest))
+  rows_then : (rest : List ℕ) → source_rows (filled_at told line).source (drop next chunk ++ rest) ≡ row_first (Some x) (source_rows (filled_at then line).source (drop after chunk ++ rest))
   unfolding source_rows yet_to_come
-  rows_then rest = ap (row_first (Found.Row x)) (usual-on columns x.at lines chunk next y after u rest)
+  rows_then rest = ap (row_first (Some x)) (usual-on columns x.at lines chunk next y after u rest)
 
   row-then : (s : InputSource) (second at : ℕ) (loads₀ solars₀ sheddables₀ loads solars sheddables : List ℕ) → x.at ≤ second + i
       → Filling s second chunk at loads₀ solars₀ sheddables₀ (filled_at told line) loads solars sheddables
@@ -78,7 +78,7 @@ module _ (columns : Columns) (lines : ℕ) (now x : Sample) (next i : ℕ) (chun
     kept_sheddables = f.kept_sheddables;
   }
     where
-      held : (rest : List ℕ) → HeldOn s.now (source_rows s (drop at chunk ++ rest)) second (filled_at told line) (row_first (Found.Row x) (source_rows (filled_at then line).source (drop after chunk ++ rest))) loads solars sheddables
+      held : (rest : List ℕ) → HeldOn s.now (source_rows s (drop at chunk ++ rest)) second (filled_at told line) (row_first (Some x) (source_rows (filled_at then line).source (drop after chunk ++ rest))) loads solars sheddables
           → HeldOn s.now (source_rows s (drop at chunk ++ rest)) second (filled_at then line) (source_rows (filled_at then line).source (drop after chunk ++ rest)) loads solars sheddables
       held rest c =
           let left = (source_rows (filled_at then line).source (drop after chunk ++ rest)).rows in

@@ -1,4 +1,5 @@
 -- A source that is refused, and the end of the file. Assumes nothing.
+use Rattle.std.specs.Prelude.{Ok, Err, Some, None, Result, Option}
 use Prim.Native.Nat.{ℕ}
 use mathlib.Core.Path.{◌≡◌, refl, sym, ap, ◌∙◌}
 use mathlib.Core.Bool.{Bool, true, false, not}
@@ -7,7 +8,6 @@ use Rattle.rules.specs.Answers.{is_accepted}
 use Rattle.rules.specs.Lines.{Line}
 use Rattle.rules.proofs.Tests.{never}
 use Rattle.sheet_stages.specs.declared.stage.Stage.{Stage}
-use Rattle.sample_rows.specs.declared.reader.Ending.{Ending}
 use Rattle.rows_in_force.specs.declared.in_force.Ahead.{Ahead}
 use Rattle.input_source.specs.declared.source.InputSource.{InputSource}
 use Rattle.sheet_stages.specs.ToCome.{RowsRead, to_come, is_refused}
@@ -15,6 +15,8 @@ use Rattle.sample_rows.specs.Streamed.{yet_to_come, lines_after, begun_in, endin
 use Rattle.rows_in_force.specs.Held.{rows_ahead, is_ended, is_refusal}
 use Rattle.input_source.specs.Source.{source_rows, refused_ahead, source_refused, ahead_at_end, at_end_of, EndedRight}
 use Rattle.sheet_stages.proofs.StageLaws.{refused-read}
+use Rattle.rules.specs.declared.answers.Refusal.{Refusal}
+use Rattle.rules.specs.declared.samples.Sample.{Sample}
 
 -- ---- refused
 
@@ -94,43 +96,43 @@ no-refusal s h = go s.ahead h
 
 -- ---- the end of the file
 
-at-end : (ahead : Ahead) (e : Ending) (a : RowsRead) → rows_ahead (ahead_at_end ahead e) a ≡ at_end_of (rows_ahead ahead (ending_of e))
-at-end Ahead.Unread (Ending.LastRow y) a = refl
-at-end Ahead.Unread Ending.NoRow a = refl
-at-end Ahead.Unread (Ending.Refused r) a = refl
-at-end (Ahead.Next x) (Ending.LastRow y) a = refl
-at-end (Ahead.Next x) Ending.NoRow a = refl
-at-end (Ahead.Next x) (Ending.Refused r) a = refl
+at-end : (ahead : Ahead) (e : Result (Option Sample) Refusal) (a : RowsRead) → rows_ahead (ahead_at_end ahead e) a ≡ at_end_of (rows_ahead ahead (ending_of e))
+at-end Ahead.Unread (Ok (Some y)) a = refl
+at-end Ahead.Unread (Ok None) a = refl
+at-end Ahead.Unread (Err r) a = refl
+at-end (Ahead.Next x) (Ok (Some y)) a = refl
+at-end (Ahead.Next x) (Ok None) a = refl
+at-end (Ahead.Next x) (Err r) a = refl
 at-end (Ahead.LastTwo x y) e a = refl
 at-end (Ahead.Last x) e a = refl
 at-end Ahead.Ended e a = refl
 at-end (Ahead.Refused r) e a = refl
 
-refused-at-end : (ahead : Ahead) (e : Ending) (line : Bool) → refused_ahead (ahead_at_end ahead e) line ≡ not (is_accepted (rows_ahead ahead (ending_of e)).verdict)
-refused-at-end Ahead.Unread (Ending.LastRow y) line = refl
-refused-at-end Ahead.Unread Ending.NoRow line = refl
-refused-at-end Ahead.Unread (Ending.Refused r) line = refl
-refused-at-end (Ahead.Next x) (Ending.LastRow y) line = refl
-refused-at-end (Ahead.Next x) Ending.NoRow line = refl
-refused-at-end (Ahead.Next x) (Ending.Refused r) line = refl
+refused-at-end : (ahead : Ahead) (e : Result (Option Sample) Refusal) (line : Bool) → refused_ahead (ahead_at_end ahead e) line ≡ not (is_accepted (rows_ahead ahead (ending_of e)).verdict)
+refused-at-end Ahead.Unread (Ok (Some y)) line = refl
+refused-at-end Ahead.Unread (Ok None) line = refl
+refused-at-end Ahead.Unread (Err r) line = refl
+refused-at-end (Ahead.Next x) (Ok (Some y)) line = refl
+refused-at-end (Ahead.Next x) (Ok None) line = refl
+refused-at-end (Ahead.Next x) (Err r) line = refl
 refused-at-end (Ahead.LastTwo x y) e line = refl
 refused-at-end (Ahead.Last x) e line = refl
 refused-at-end Ahead.Ended e line = refl
 refused-at-end (Ahead.Refused r) e line = refl
 
-ends : (ahead : Ahead) (e : Ending) → is_ended (ahead_at_end ahead e) ≡ true
-ends Ahead.Unread (Ending.LastRow y) = refl
-ends Ahead.Unread Ending.NoRow = refl
-ends Ahead.Unread (Ending.Refused r) = refl
-ends (Ahead.Next x) (Ending.LastRow y) = refl
-ends (Ahead.Next x) Ending.NoRow = refl
-ends (Ahead.Next x) (Ending.Refused r) = refl
+ends : (ahead : Ahead) (e : Result (Option Sample) Refusal) → is_ended (ahead_at_end ahead e) ≡ true
+ends Ahead.Unread (Ok (Some y)) = refl
+ends Ahead.Unread (Ok None) = refl
+ends Ahead.Unread (Err r) = refl
+ends (Ahead.Next x) (Ok (Some y)) = refl
+ends (Ahead.Next x) (Ok None) = refl
+ends (Ahead.Next x) (Err r) = refl
 ends (Ahead.LastTwo x y) e = refl
 ends (Ahead.Last x) e = refl
 ends Ahead.Ended e = refl
 ends (Ahead.Refused r) e = refl
 
-pub ended-right : (s : InputSource) (e : Ending) (ahead : Ahead) → ending_of e ≡ yet_to_come s.reader [] → ahead ≡ ahead_at_end s.ahead e
+pub ended-right : (s : InputSource) (e : Result (Option Sample) Refusal) (ahead : Ahead) → ending_of e ≡ yet_to_come s.reader [] → ahead ≡ ahead_at_end s.ahead e
     → EndedRight s (record { reader = s.reader; now = s.now; ahead = ahead })
 unfolding source_rows source_refused
 ended-right s e ahead h is = record {

@@ -1,13 +1,14 @@
 -- Document 01, "A row holds until the next": the row in force and the rows after it, from the first byte of the sample file to its end.
 -- What a call owes is stated over every rest of the file, so that calls chain.
-use Rattle.std.specs.Prelude.{ℕ, ◌≡◌, Bool, true, false, not, List, [], if◌then◌else◌}
+use Rattle.std.specs.Prelude.{ℕ, ◌≡◌, Bool, true, false, not, List, [], if◌then◌else◌, Ok, Err, Some, None, Result, Option}
 use Rattle.rules.specs.Answers.{is_accepted}
-use Rattle.sample_rows.specs.declared.reader.Ending.{Ending}
 use Rattle.rows_in_force.specs.declared.in_force.Ahead.{Ahead}
 use Rattle.input_source.specs.declared.source.InputSource.{InputSource}
 use Rattle.sheet_stages.specs.ToCome.{RowsRead, is_refused}
 use Rattle.sample_rows.specs.Streamed.{yet_to_come}
 use Rattle.rows_in_force.specs.Held.{rows_ahead, is_ended}
+use Rattle.rules.specs.declared.answers.Refusal.{Refusal}
+use Rattle.rules.specs.declared.samples.Sample.{Sample}
 
 -- ---- the rows that are still to come into force
 
@@ -33,13 +34,13 @@ source_refused s = refused_ahead s.ahead (is_refused s.reader.stage)
 -- ---- the end of the file
 
 -- after what is ahead there is what the reader's last line gave
-abbrev pub ahead_at_end : Ahead → Ending → Ahead
-ahead_at_end Ahead.Unread (Ending.LastRow y) = Ahead.Last y
-ahead_at_end Ahead.Unread Ending.NoRow = Ahead.Ended
-ahead_at_end Ahead.Unread (Ending.Refused r) = Ahead.Refused r
-ahead_at_end (Ahead.Next x) (Ending.LastRow y) = Ahead.LastTwo x y
-ahead_at_end (Ahead.Next x) Ending.NoRow = Ahead.Last x
-ahead_at_end (Ahead.Next x) (Ending.Refused r) = Ahead.Refused r
+abbrev pub ahead_at_end : Ahead → Result (Option Sample) Refusal → Ahead
+ahead_at_end Ahead.Unread (Ok (Some y)) = Ahead.Last y
+ahead_at_end Ahead.Unread (Ok None) = Ahead.Ended
+ahead_at_end Ahead.Unread (Err r) = Ahead.Refused r
+ahead_at_end (Ahead.Next x) (Ok (Some y)) = Ahead.LastTwo x y
+ahead_at_end (Ahead.Next x) (Ok None) = Ahead.Last x
+ahead_at_end (Ahead.Next x) (Err r) = Ahead.Refused r
 ahead_at_end (Ahead.LastTwo x y) e = Ahead.LastTwo x y
 ahead_at_end (Ahead.Last x) e = Ahead.Last x
 ahead_at_end Ahead.Ended e = Ahead.Ended

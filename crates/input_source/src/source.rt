@@ -4,9 +4,10 @@ ghost use Rattle.rules.specs.SampleFile.{before_all};
 ghost use Rattle.sheet_stages.specs.ToCome.{file_rows};
 ghost use Rattle.input_source.specs.Source.{source_rows, source_ended, source_refused, ahead_at_end, EndedRight};
 
+use rules::answers::Refusal;
 use rows_in_force::in_force::Ahead;
 use rules::samples::Sample;
-use sample_rows::reader::{Ending, SampleReader, end, reader};
+use sample_rows::reader::{SampleReader, end, reader};
 use sheet_stages::stage::line_refused;
 
 // The row in force, and the rows after it.
@@ -67,19 +68,19 @@ pub fn has_ended(source: InputSource) -> bool
 }
 
 // What is ahead at the end of the file, where the reader's last line gave this.
-fn ahead_at_end(ahead: Ahead, ending: Ending) -> Ahead
+fn ahead_at_end(ahead: Ahead, ending: Result<Option<Sample>, Refusal>) -> Ahead
     ensures { result ≡ ahead_at_end ahead ending }
 {
     match ahead {
         Ahead::Unread => match ending {
-            Ending::LastRow(last) => Ahead::Last(last),
-            Ending::NoRow => Ahead::Ended,
-            Ending::Refused(refusal) => Ahead::Refused(refusal),
+            Ok(Some(last)) => Ahead::Last(last),
+            Ok(None) => Ahead::Ended,
+            Err(refusal) => Ahead::Refused(refusal),
         },
         Ahead::Next(row) => match ending {
-            Ending::LastRow(last) => Ahead::LastTwo(row, last),
-            Ending::NoRow => Ahead::Last(row),
-            Ending::Refused(refusal) => Ahead::Refused(refusal),
+            Ok(Some(last)) => Ahead::LastTwo(row, last),
+            Ok(None) => Ahead::Last(row),
+            Err(refusal) => Ahead::Refused(refusal),
         },
         Ahead::LastTwo(_, _) => ahead,
         Ahead::Last(_) => ahead,

@@ -17,11 +17,11 @@ use perform::{no_files, perform};
 use plain_words::numbers::number;
 use plain_words::texts::say;
 use records::start::start;
-use rules::answers::{Refusal, Verdict};
+use rules::answers::Refusal;
 use rules::limits::MOST_SECONDS;
 use rules::run::Run;
 use rules::station::Station;
-use sheet::numbers::{CellValue, time};
+use sheet::numbers::{CellFault, time};
 use station::reader::read_station;
 use std::env::Env;
 use std::io::Write;
@@ -69,7 +69,7 @@ fn way_asked(rt: &HostRuntime) -> Named {
     way_of(&word[..end])
 }
 
-fn seconds_asked(rt: &HostRuntime) -> CellValue {
+fn seconds_asked(rt: &HostRuntime) -> Result<u32, CellFault> {
     let mut digits = [0u8; 4096];
     let end = rt.arg(3, &mut digits).unwrap_or(0);
     time(MOST_SECONDS, &digits[..end])
@@ -87,7 +87,7 @@ fn say_refusal<W: Write>(err: &mut W, refusal: Refusal) {
 // Where the rows were shown, standard output has nothing else.
 fn report(rt: &HostRuntime, tally: Tally, shown: bool) {
     let verdict = tally.verdict;
-    if let Verdict::Refused(refusal) = verdict {
+    if let Err(refusal) = verdict {
         let err = &mut rt.stderr();
         say(err, b"measure_seconds: second ");
         number(err, tally.seconds);
@@ -117,7 +117,7 @@ fn work_station(rt: &HostRuntime, way: Way, st: Station, asked: u32) {
 fn work_file(rt: &HostRuntime, way: Way, asked: u32, file: &[u8]) {
     let reading = read_station(file);
     let verdict = reading.verdict;
-    if let Verdict::Refused(refusal) = verdict {
+    if let Err(refusal) = verdict {
         let err = &mut rt.stderr();
         say(err, b"measure_seconds: the station file");
         say_refusal(err, refusal);
@@ -156,7 +156,7 @@ fn main(rt: HostRuntime) {
         return;
     };
     let asked = seconds_asked(&rt);
-    let CellValue::Value(seconds) = asked else {
+    let Ok(seconds) = asked else {
         say_usage(&mut rt.stderr());
         return;
     };

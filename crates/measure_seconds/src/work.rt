@@ -6,7 +6,7 @@ use crate::output::wrote_start;
 use crate::row_bytes::{RowBytes, no_bytes, with_bytes};
 use dispatch::second::second;
 use row_texts::put_rows::put_rows;
-use rules::answers::{Ended, Outcome, Verdict};
+use rules::answers::{Ended, Refusal};
 use rules::limits::{ROW_COLUMNS, SECOND_INPUTS};
 use rules::run::{Run, Worked};
 use rules::station::Station;
@@ -21,7 +21,7 @@ pub(crate) struct Tally {
     pub(crate) run: Run,
     pub(crate) seconds: u64,
     pub(crate) bytes: RowBytes,
-    pub(crate) verdict: Verdict,
+    pub(crate) verdict: Result<(), Refusal>,
 }
 
 pub(crate) fn work_each(st: Station, first: Run, asked: u32) -> Tally {
@@ -33,17 +33,17 @@ pub(crate) fn work_each(st: Station, first: Run, asked: u32) -> Tally {
         let handed = second(st, run, inputs_of(i), &mut row);
         let answer = handed.answer;
         match answer {
-            Outcome::Row(size) => {
+            Ok(size) => {
                 run = handed.run;
                 bytes = with_bytes(bytes, &row, size);
                 i += 1;
             }
-            Outcome::Refused(refusal) => {
+            Err(refusal) => {
                 return Tally {
                     run,
                     seconds: i as u64,
                     bytes,
-                    verdict: Verdict::Refused(refusal),
+                    verdict: Err(refusal),
                 };
             }
         }
@@ -52,7 +52,7 @@ pub(crate) fn work_each(st: Station, first: Run, asked: u32) -> Tally {
         run,
         seconds: i as u64,
         bytes,
-        verdict: Verdict::Accepted,
+        verdict: Ok(()),
     }
 }
 
@@ -90,23 +90,23 @@ fn put_text(rows: &[u64], count: usize, text: &mut [u8]) -> usize {
 }
 
 // What the rules answer to the second that comes next, asked of that second alone.
-fn next_verdict(st: Station, run: Run) -> Verdict {
+fn next_verdict(st: Station, run: Run) -> Result<(), Refusal> {
     let mut row = [0u8; 256];
     let handed = second(st, run, inputs_of(run.done), &mut row);
     let answer = handed.answer;
     match answer {
-        Outcome::Row(_) => Verdict::Accepted,
-        Outcome::Refused(refusal) => Verdict::Refused(refusal),
+        Ok(_) => Ok(()),
+        Err(refusal) => Err(refusal),
     }
 }
 
-fn verdict_of(st: Station, worked: Worked) -> Verdict {
+fn verdict_of(st: Station, worked: Worked) -> Result<(), Refusal> {
     let ended = worked.ended;
     let run = worked.run;
     if let Ended::BeforeRefused = ended {
         return next_verdict(st, run);
     }
-    Verdict::Accepted
+    Ok(())
 }
 
 fn none_worked(first: Run) -> Tally {
@@ -114,18 +114,18 @@ fn none_worked(first: Run) -> Tally {
         run: first,
         seconds: 0,
         bytes: no_bytes(),
-        verdict: Verdict::Accepted,
+        verdict: Ok(()),
     }
 }
 
-fn goes_on(verdict: Verdict) -> bool {
-    if let Verdict::Accepted = verdict {
+fn goes_on(verdict: Result<(), Refusal>) -> bool {
+    if let Ok(()) = verdict {
         return true;
     }
     false
 }
 
-fn with_batch(before: Tally, worked: Worked, verdict: Verdict, text: &[u8], size: usize) -> Tally {
+fn with_batch(before: Tally, worked: Worked, verdict: Result<(), Refusal>, text: &[u8], size: usize) -> Tally {
     let run = worked.run;
     let bytes = before.bytes;
     Tally {

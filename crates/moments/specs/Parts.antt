@@ -1,6 +1,5 @@
 -- A run's record in parts: the sets' states and the decided amounts, which stand in arrays of their own, and the numbers beside them.
-use Rattle.std.specs.Prelude.{ℕ, ◌+◌, List, count_ones, Float}
-use Rattle.rules.specs.declared.run.Held.TheVariants.{At}
+use Rattle.std.specs.Prelude.{ℕ, ◌+◌, List, count_ones, Float, Some}
 use Rattle.rules.specs.declared.run.Row.{Row}
 use Rattle.rules.specs.declared.run.Run.{Run}
 use Rattle.rules.specs.declared.run.SetState.{SetState}
@@ -32,7 +31,7 @@ moment_after m call held store w =
       since = since_after call m.called m.since m.done;
       called = call;
       store = store;
-      setpoint = At held;
+      setpoint = Some held;
       totals = plus_in m.totals w;
     }
 

@@ -4,7 +4,7 @@ ghost use Rattle.moments.specs.Parts.{run_of, moment_after, row_of};
 
 use crate::totals::plus;
 use commitment::configuration::since_after;
-use rules::run::{Held, Row, Run, SetState, Totals, Watts};
+use rules::run::{Row, Run, SetState, Totals, Watts};
 
 // The record without its arrays.
 #[derive(Clone, Copy)]
@@ -13,7 +13,7 @@ pub struct Moment {
     pub since: u32,
     pub called: usize,
     pub store: u64,
-    pub setpoint: Held,
+    pub setpoint: Option<f64>,
     pub totals: Totals,
 }
 
@@ -61,7 +61,7 @@ pub fn moment_after(moment: Moment, call: usize, held: f64, store: u64, watts: W
         since: since_after(call, moment.called, moment.since, done),
         called: call,
         store,
-        setpoint: Held::At(held),
+        setpoint: Some(held),
         totals: sums,
     }
 }

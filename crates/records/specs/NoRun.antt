@@ -1,7 +1,6 @@
 -- Document 01, "At the start": what a refused start hands back, where the rules give no record.
-use Rattle.std.specs.Prelude.{ℕ, List, replicate}
+use Rattle.std.specs.Prelude.{ℕ, List, replicate, None}
 use Rattle.rules.specs.declared.run.Mode.TheVariants.{Off}
-use Rattle.rules.specs.declared.run.Held.TheVariants.{Absent}
 use Rattle.rules.specs.declared.run.SetState.{SetState}
 use Rattle.rules.specs.declared.run.Run.{Run}
 use Rattle.rules.specs.Modes.{fresh}
@@ -15,7 +14,7 @@ at_start store states =
       since = 0;
       called = 0;
       store = store;
-      setpoint = Absent;
+      setpoint = None;
       sets = states;
       decided = replicate 60 0;
       totals = no_totals;

@@ -2,20 +2,20 @@
 ghost use Rattle.std.specs.Prelude.{◌≡◌, ◌<◌, if◌then◌else◌};
 ghost use Rattle.rules.specs.declared.run.Mode.TheVariants.{Off, On};
 ghost use Rattle.rules.specs.Numbers.{has, tab};
-ghost use Rattle.rules.specs.Answers.{judged, value_or, verdict_of};
+ghost use Rattle.rules.specs.Answers.{judged, value_or, result_of};
 ghost use Rattle.rules.specs.Modes.{fresh};
 ghost use Rattle.rules.specs.RunRecord.{start};
 ghost use Rattle.records.specs.NoRun.{at_start, no_run};
 
-use rules::answers::{Refusal, Verdict};
-use rules::run::{Held, Mode, Run, SetState, Totals};
+use rules::answers::Refusal;
+use rules::run::{Mode, Run, SetState, Totals};
 use rules::station::Station;
 use station_record::record::some_file_gives;
 
 // The verdict on a station record, and the record that its run starts with; where it is refused, the record of zeros.
 #[derive(Clone, Copy)]
 pub struct Started {
-    pub verdict: Verdict,
+    pub verdict: Result<(), Refusal>,
     pub run: Run,
 }
 
@@ -77,7 +77,7 @@ fn at_start(store: u64, sets: [SetState; 8]) -> Run
         since: 0,
         called: 0,
         store,
-        setpoint: Held::Absent,
+        setpoint: None,
         sets,
         decided: [0; 60],
         totals,
@@ -93,13 +93,13 @@ fn no_run() -> Run
 }
 
 pub fn start(st: Station) -> Started
-    ensures verdict_value { verdict_of result.verdict ≡ judged (start st) }
+    ensures verdict_value { result_of result.verdict ≡ judged (start st) }
     ensures run_value { result.run ≡ value_or no_run (start st) }
 {
     if !some_file_gives(st) {
         let none = no_run();
         return Started {
-            verdict: Verdict::Refused(Refusal::StationRecord),
+            verdict: Err(Refusal::StationRecord),
             run: none,
         };
     }
@@ -108,7 +108,7 @@ pub fn start(st: Station) -> Started
     let sets = states_at_start(control.online);
     let run = at_start(battery.start, sets);
     Started {
-        verdict: Verdict::Accepted,
+        verdict: Ok(()),
         run,
     }
 }

@@ -4,7 +4,7 @@ ghost use Rattle.rules.specs.Row.{columns};
 ghost use Rattle.rows.specs.Written.{RowPut};
 
 use decimals::numbers::{put_commaed, put_numbers};
-use rules::answers::{Outcome, Refusal};
+use rules::answers::Refusal;
 use rules::limits::LEAST_ROW_BUFFER;
 use rules::run::Row;
 
@@ -34,13 +34,13 @@ pub fn numbers_of(row: Row) -> [u64; 13]
 }
 
 // A row at the front of a lent buffer.
-pub fn put_row(row: Row, buffer: &mut [u8]) -> Outcome
+pub fn put_row(row: Row, buffer: &mut [u8]) -> Result<usize, Refusal>
     ensures { RowPut row buffer.old result buffer.new }
 {
     if buffer.len() < LEAST_ROW_BUFFER {
-        return Outcome::Refused(Refusal::RowBuffer);
+        return Err(Refusal::RowBuffer);
     }
     let numbers = numbers_of(row);
     let first = put_commaed(&numbers[..FIRST], 0, buffer);
-    Outcome::Row(put_numbers(&numbers[FIRST..], first, buffer))
+    Ok(put_numbers(&numbers[FIRST..], first, buffer))
 }

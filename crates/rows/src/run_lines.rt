@@ -6,20 +6,20 @@ ghost use Rattle.rows.specs.SetLine.{set_line};
 ghost use Rattle.rows.specs.Written.{TextPut};
 
 use decimals::numbers::put_numbers;
-use rules::answers::{Outcome, Refusal};
+use rules::answers::Refusal;
 use rules::limits::LEAST_ROW_BUFFER;
 use rules::run::SetState;
 use texts::put_text;
 use words::refusals::number_and_place;
 
 // The heading of the rows.
-pub fn put_row_heading(buffer: &mut [u8]) -> Outcome
+pub fn put_row_heading(buffer: &mut [u8]) -> Result<usize, Refusal>
     ensures { TextPut row_heading buffer.old result buffer.new }
 {
     if buffer.len() < LEAST_ROW_BUFFER {
-        return Outcome::Refused(Refusal::RowBuffer);
+        return Err(Refusal::RowBuffer);
     }
-    Outcome::Row(put_text(
+    Ok(put_text(
         b"t,load,shed,solar,charge,spill,give,diesel,unserved,on,sets,call,store\n",
         0,
         buffer,
@@ -27,21 +27,21 @@ pub fn put_row_heading(buffer: &mut [u8]) -> Outcome
 }
 
 // The heading of the sets' lines.
-pub fn put_set_heading(buffer: &mut [u8]) -> Outcome
+pub fn put_set_heading(buffer: &mut [u8]) -> Result<usize, Refusal>
     ensures { TextPut set_heading buffer.old result buffer.new }
 {
     if buffer.len() < LEAST_ROW_BUFFER {
-        return Outcome::Refused(Refusal::RowBuffer);
+        return Err(Refusal::RowBuffer);
     }
-    Outcome::Row(put_text(b"set,run,starts,stops,energy,fuel\n", 0, buffer))
+    Ok(put_text(b"set,run,starts,stops,energy,fuel\n", 0, buffer))
 }
 
 // The line of the set that has this number, counted from 1.
-pub fn put_set_line(number: u32, state: SetState, buffer: &mut [u8]) -> Outcome
+pub fn put_set_line(number: u32, state: SetState, buffer: &mut [u8]) -> Result<usize, Refusal>
     ensures { TextPut (set_line number state) buffer.old result buffer.new }
 {
     if buffer.len() < LEAST_ROW_BUFFER {
-        return Outcome::Refused(Refusal::RowBuffer);
+        return Err(Refusal::RowBuffer);
     }
     let columns = [
         number as u64,
@@ -51,23 +51,23 @@ pub fn put_set_line(number: u32, state: SetState, buffer: &mut [u8]) -> Outcome
         state.energy,
         state.fuel,
     ];
-    Outcome::Row(put_numbers(&columns, 0, buffer))
+    Ok(put_numbers(&columns, 0, buffer))
 }
 
 // "refused,number,place": all that a refused run prints.
-pub fn put_refusal(number: u64, place: u64, buffer: &mut [u8]) -> Outcome
+pub fn put_refusal(number: u64, place: u64, buffer: &mut [u8]) -> Result<usize, Refusal>
     ensures { TextPut (refusal_line number place) buffer.old result buffer.new }
 {
     if buffer.len() < LEAST_ROW_BUFFER {
-        return Outcome::Refused(Refusal::RowBuffer);
+        return Err(Refusal::RowBuffer);
     }
     let at = put_text(b"refused,", 0, buffer);
     let columns = [number, place];
-    Outcome::Row(put_numbers(&columns, at, buffer))
+    Ok(put_numbers(&columns, at, buffer))
 }
 
 // The same of a refusal as the functions answer it.
-pub fn put_refused(refusal: Refusal, buffer: &mut [u8]) -> Outcome
+pub fn put_refused(refusal: Refusal, buffer: &mut [u8]) -> Result<usize, Refusal>
     ensures { TextPut (refused_line refusal) buffer.old result buffer.new }
 {
     let answer = number_and_place(refusal);
@@ -75,11 +75,11 @@ pub fn put_refused(refusal: Refusal, buffer: &mut [u8]) -> Outcome
 }
 
 // All that a program prints whose whole answer is that its files are in order.
-pub fn put_accepted(buffer: &mut [u8]) -> Outcome
+pub fn put_accepted(buffer: &mut [u8]) -> Result<usize, Refusal>
     ensures { TextPut accepted_line buffer.old result buffer.new }
 {
     if buffer.len() < LEAST_ROW_BUFFER {
-        return Outcome::Refused(Refusal::RowBuffer);
+        return Err(Refusal::RowBuffer);
     }
-    Outcome::Row(put_text(b"accepted\n", 0, buffer))
+    Ok(put_text(b"accepted\n", 0, buffer))
 }

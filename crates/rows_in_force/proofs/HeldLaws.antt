@@ -1,5 +1,5 @@
 -- The row in force at a second, of the rows that are ahead. Assumes nothing.
-use Rattle.std.specs.Prelude.{if◌then◌else◌}
+use Rattle.std.specs.Prelude.{if◌then◌else◌, Some, None, Option}
 use Prim.Native.Nat.{ℕ, zero, suc, ◌+◌, ◌≤◌, ◌<◌, min, max}
 use mathlib.Core.Path.{◌≡◌, refl, sym, ap, subst, ◌∙◌}
 use mathlib.Core.Bool.{Bool, true, false}
@@ -14,7 +14,6 @@ use Rattle.rules.specs.declared.run.Inputs.{Inputs}
 use Rattle.rules.specs.SampleFile.{holding}
 use Rattle.rules.specs.Run.{inputs_of}
 use Rattle.rules.proofs.Tests.{never}
-use Rattle.sheet_stages.specs.declared.stage.Found.{Found}
 use Rattle.sample_rows.specs.declared.reader.NextRow.{NextRow}
 use Rattle.rows_in_force.specs.declared.in_force.Ahead.{Ahead}
 use Rattle.rows_in_force.specs.declared.in_force.InForce.{InForce}
@@ -100,14 +99,14 @@ module _ (t : ℕ) (a : RowsRead) where
       go true e = record { verdict = refl; onward = onward-in now x [] t (leb-true x.at t e); force = λ u. none-to-come x t; tells = λ u w. tellable }
       go false e = stays now (Ahead.Last x) false (λ u. before-next now x [] t e) (λ u w. tellable)
 
-  then-in : {now x : Sample} {before : RowsRead} {k : InForce} → x.at ≤ t → CameIn x before t a k → CameIn now (row_first (Found.Row x) before) t a k
+  then-in : {now x : Sample} {before : RowsRead} {k : InForce} → x.at ≤ t → CameIn x before t a k → CameIn now (row_first (Some x) before) t a k
   then-in {now} {x} {before} h c = record { verdict = c.verdict; onward = onward_then (onward-in now x before.rows t h) c.onward; force = c.force; tells = c.tells }
 
-  next-in : (now x : Sample) → CameIn now (row_first (Found.Row x) a) t a (comes_in now (Ahead.Next x) t)
+  next-in : (now x : Sample) → CameIn now (row_first (Some x) a) t a (comes_in now (Ahead.Next x) t)
   next-in now x = go (leb x.at t) refl
     where
       go : (b : Bool) → leb x.at t ≡ b
-          → CameIn now (row_first (Found.Row x) a) t a (if b then record { now = x; ahead = Ahead.Unread; unread = true } else record { now = now; ahead = Ahead.Next x; unread = false })
+          → CameIn now (row_first (Some x) a) t a (if b then record { now = x; ahead = Ahead.Unread; unread = true } else record { now = now; ahead = Ahead.Next x; unread = false })
       go true e = then-in (leb-true x.at t e) (stays x Ahead.Unread true (λ u. never (sym u)) (λ u w. never (sym u)))
       go false e = stays now (Ahead.Next x) false (λ u. before-next now x a.rows t e) (λ u w r. let h = leb-false x.at t e in let g = latest-of x a.rows in omega (arith, h, g))
 
@@ -228,7 +227,7 @@ module _ (b : Begun) (line : List ℕ) (now : Sample) (ahead : Ahead) (t : ℕ) 
       after = record { stage = p.stage; len = p.len }
 
       -- the rows up to the next one's are in force; where that one is unread, it is the one that the reader hands over
-      module _ (found : Found) (e : p.found ≡ found) (rest : List ℕ) where
+      module _ (found : Option Sample) (e : p.found ≡ found) (rest : List ℕ) where
         abbrev left : RowsRead
         left = yet_to_come (reader_at after line) (drop p.next chunk ++ rest)
 
@@ -237,7 +236,7 @@ module _ (b : Begun) (line : List ℕ) (now : Sample) (ahead : Ahead) (t : ℕ) 
         handed =
             ap (λ (w : Ahead). rows_ahead w (yet_to_come (reader_at upto line) (drop next chunk ++ rest))) (g.unread u)
             ∙ right.rows rest
-            ∙ ap (λ (f : Found). row_first f left) e
+            ∙ ap (λ (f : Option Sample). row_first f left) e
 
         same-verdict : (row_first found left).verdict ≡ (rows_ahead ahead (yet_to_come (reader_at b line) (drop at chunk ++ rest))).verdict
         same-verdict = ap (λ (r : RowsRead). r.verdict) (sym handed) ∙ (g.rows rest).verdict
@@ -251,10 +250,10 @@ module _ (b : Begun) (line : List ℕ) (now : Sample) (ahead : Ahead) (t : ℕ) 
       unrefused : is_refusal ahead ≡ false
       unrefused = sym g.refusal ∙ ap is_refusal (g.unread u)
 
-      pub reaching-more : (x : Sample) (k' : InForce) → p.found ≡ Found.Row x → k' ≡ comes_in k.now (Ahead.Next x) t → Reaching after p.next k'
+      pub reaching-more : (x : Sample) (k' : InForce) → p.found ≡ Some x → k' ≡ comes_in k.now (Ahead.Next x) t → Reaching after p.next k'
       reaching-more x k' e is = subst (λ (k : InForce). Reaching after p.next k) (sym is) (record {
-        rows = λ rest. let d = comes-in-right t (left (Found.Row x) e rest) k.now (Ahead.Next x) in
-            record { verdict = d.verdict ∙ same-verdict (Found.Row x) e rest; onward = onward_then (same-onward (Found.Row x) e rest) d.onward; force = d.force; tells = d.tells };
+        rows = λ rest. let d = comes-in-right t (left (Some x) e rest) k.now (Ahead.Next x) in
+            record { verdict = d.verdict ∙ same-verdict (Some x) e rest; onward = onward_then (same-onward (Some x) e rest) d.onward; force = d.force; tells = d.tells };
         within = right.within;
         onward = let o : next < p.next = right.onward (ap is_row e) in omega (arith, g.onward);
         ended = comes-in-ended k.now (Ahead.Next x) t ∙ sym unended;
@@ -263,10 +262,10 @@ module _ (b : Begun) (line : List ℕ) (now : Sample) (ahead : Ahead) (t : ℕ) 
       })
 
       -- the chunk has no further row
-      pub not-reached : p.found ≡ Found.Nothing
+      pub not-reached : p.found ≡ None
           → ReachedRight b line now ahead t chunk at (record { begun = after; now = k.now; ahead = Ahead.Unread; next = p.next; told = false })
       not-reached e = record {
-        rows = λ rest. record { verdict = same-verdict Found.Nothing e rest; onward = same-onward Found.Nothing e rest; force = λ b. never b; tells = λ b. never b };
+        rows = λ rest. record { verdict = same-verdict None e rest; onward = same-onward None e rest; force = λ b. never b; tells = λ b. never b };
         within = right.within;
         onward = let o : min next (length chunk) ≤ p.next = right.ahead in omega (arith, g.onward, g.within);
         further = λ b. right.further (ap is_row e);

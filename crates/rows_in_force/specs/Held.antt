@@ -1,6 +1,6 @@
 -- Document 01, "A row holds until the next": the row in force at a second, of a sample file that comes in chunks.
 -- What a call owes is stated over every rest of the file, so that calls chain.
-use Rattle.std.specs.Prelude.{ℕ, zero, suc, ◌≤◌, ◌<◌, min, max, ◌≡◌, Bool, true, false, List, [], ◌∷◌, ◌++◌, length, drop, leb, if◌then◌else◌}
+use Rattle.std.specs.Prelude.{ℕ, zero, suc, ◌≤◌, ◌<◌, min, max, ◌≡◌, Bool, true, false, List, [], ◌∷◌, ◌++◌, length, drop, leb, if◌then◌else◌, Some}
 use Rattle.byte_search.specs.Bytes.{index_of}
 use Rattle.rules.specs.declared.samples.Sample.{Sample}
 use Rattle.rules.specs.declared.run.Inputs.{Inputs}
@@ -8,7 +8,6 @@ use Rattle.rules.specs.Bytes.{LF}
 use Rattle.rules.specs.Answers.{is_accepted, refusal_of}
 use Rattle.rules.specs.SampleFile.{holding}
 use Rattle.rules.specs.Run.{inputs_of}
-use Rattle.sheet_stages.specs.declared.stage.Found.{Found}
 use Rattle.sample_rows.specs.declared.reader.SampleReader.{SampleReader}
 use Rattle.rows_in_force.specs.declared.in_force.Ahead.{Ahead}
 use Rattle.rows_in_force.specs.declared.in_force.InForce.{InForce}
@@ -22,7 +21,7 @@ use Rattle.sample_rows.specs.Streamed.{yet_to_come}
 -- the rows that are known to be ahead, and then those that the reader has not handed over yet
 abbrev pub rows_ahead : Ahead → RowsRead → RowsRead
 rows_ahead Ahead.Unread others = others
-rows_ahead (Ahead.Next x) others = row_first (Found.Row x) others
+rows_ahead (Ahead.Next x) others = row_first (Some x) others
 rows_ahead (Ahead.LastTwo x y) others = all_read (x ∷ y ∷ [])
 rows_ahead (Ahead.Last x) others = all_read (x ∷ [])
 rows_ahead Ahead.Ended others = all_read []

@@ -5,7 +5,7 @@ ghost use Rattle.rows_in_force.specs.Held.{last_comes_in, comes_in, ReachedRight
 use rules::answers::Refusal;
 use rules::samples::Sample;
 use sample_rows::reader::next_row;
-use sheet_stages::stage::{Found, Stage};
+use sheet_stages::stage::Stage;
 use words::arithmetic::{lesser, wide};
 
 // What is known of the rows after the one in force.
@@ -133,7 +133,7 @@ pub fn reach(told: FillState, line: &[u8; 512], second: usize, chunk: &[u8]) -> 
         next = further.next;
         let row = known.now;
         let found = further.found;
-        let Found::Row(sample) = found else {
+        let Some(sample) = found else {
             return Reached {
                 begun: Begun { stage, len },
                 now: row,

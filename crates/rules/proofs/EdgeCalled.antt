@@ -1,4 +1,5 @@
 -- Document 01, steps 9 and 10, at their edges: the reserve, the filter, and the configuration called. By computation. Assumes nothing.
+use Rattle.std.specs.Prelude.{Some, None}
 use Prim.Native.Nat.{ℕ}
 use mathlib.Core.Path.{◌≡◌, refl}
 use mathlib.Core.Bool.{true, false}
@@ -6,7 +7,6 @@ use mathlib.Core.List.{List, [], ◌∷◌, ◌++◌}
 use lib.ListN.{replicate}
 use lib.Ieee
 use lib.Ieee.{Float, nan, inf}
-use Rattle.rules.specs.declared.run.Held.TheVariants.{Absent, At}
 use Rattle.rules.specs.declared.run.Mode.{Mode}
 use Rattle.rules.specs.declared.run.Mode.TheVariants.{Off, Warming, On, Cooling, Service}
 use Rattle.rules.specs.declared.run.SetState.{SetState}
@@ -63,8 +63,8 @@ reserve_edges =
 -- "held x (k/1000) + wanted x ((1000-k)/1000)"; "With none held, held becomes wanted"
 abbrev held_given : List Float
 held_given =
-    held_after 999 Absent 7 ∷ held_after 0 (At (float 1000)) 2000 ∷ held_after 1 (At (float 1000)) 2000 ∷ held_after 500 (At (float 1000)) 2000
-    ∷ held_after 999 (At (float 1000)) 2000 ∷ held_after 999 (At (float 0)) 1000000 ∷ held_after 0 (At nan) 2000 ∷ held_after 0 (At (inf false)) 2000 ∷ []
+    held_after 999 None 7 ∷ held_after 0 (Some (float 1000)) 2000 ∷ held_after 1 (Some (float 1000)) 2000 ∷ held_after 500 (Some (float 1000)) 2000
+    ∷ held_after 999 (Some (float 1000)) 2000 ∷ held_after 999 (Some (float 0)) 1000000 ∷ held_after 0 (Some nan) 2000 ∷ held_after 0 (Some (inf false)) 2000 ∷ []
 
 abbrev held_said : List Float
 held_said = float 7 ∷ float 2000 ∷ float 1999 ∷ float 1500 ∷ float 1001 ∷ float 1000 ∷ nan ∷ nan ∷ []

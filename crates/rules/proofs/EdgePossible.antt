@@ -1,6 +1,6 @@
 -- Document 01, "At the start", "A run record is possible when" (24) and "station record that no file gives" (25): both sides of each clause.
 -- A test that holds shows 1, and one that does not 0. By computation. Assumes nothing.
-use Rattle.std.specs.Prelude.{if◌then◌else◌}
+use Rattle.std.specs.Prelude.{if◌then◌else◌, Some, None, Option, Float}
 use Prim.Native.Nat.{ℕ}
 use mathlib.Core.Path.{◌≡◌, refl}
 use mathlib.Core.Bool.{Bool}
@@ -10,8 +10,6 @@ use Rattle.rules.specs.declared.station.Station.{Station}
 use Rattle.rules.specs.declared.run.Mode.{Mode}
 use Rattle.rules.specs.declared.run.Mode.TheVariants.{Off, Warming, On, Cooling, Service}
 use Rattle.rules.specs.declared.run.SetState.{SetState}
-use Rattle.rules.specs.declared.run.Held.{Held}
-use Rattle.rules.specs.declared.run.Held.TheVariants.{Absent, At}
 use Rattle.rules.specs.declared.run.Totals.{Totals}
 use Rattle.rules.specs.declared.run.Run.{Run}
 use Rattle.rules.specs.Numbers
@@ -61,7 +59,7 @@ abbrev fair : Run → ℕ
 fair r = told (possible station r)
 
 abbrev record_of : List ℕ → List SetState → List ℕ → List ℕ → Run
-record_of ns states decided sums = run_with ns Absent states decided sums
+record_of ns states decided sums = run_with ns None states decided sums
 
 -- one number of the record changed; the first set's mode; one of its counts; a set that does not exist; decided amounts; one of the totals
 abbrev numbered : ℕ → ℕ → ℕ
@@ -232,9 +230,9 @@ some_edges =
 abbrev total_numbers : Totals → List ℕ
 total_numbers t = t.offered ∷ t.load ∷ t.shed ∷ t.solar ∷ t.charge ∷ t.spill ∷ t.give ∷ t.diesel ∷ t.unserved ∷ []
 
-abbrev held_numbers : Held → List ℕ
-held_numbers Absent = 0 ∷ []
-held_numbers (At held) = 1 ∷ []
+abbrev held_numbers : Option Float → List ℕ
+held_numbers None = 0 ∷ []
+held_numbers (Some held) = 1 ∷ []
 
 -- eight sets of which the first and the last are on line
 abbrev eight : Station

@@ -1,5 +1,6 @@
 -- Stations, states and run records made of their numbers in the paper's order, so that an edge case changes one number; and the form of
 -- such a case. The worked cases P1 to P12 are specs/Cases.antt's. Assumes nothing.
+use Rattle.std.specs.Prelude.{Option, Float}
 use Prim.Native.Nat.{ℕ, ◌-◌}
 use mathlib.Core.List.{List, [], ◌∷◌, ◌++◌, map}
 use lib.ListN.{length, take, drop, get_or, replicate}
@@ -7,7 +8,6 @@ use Rattle.rules.specs.declared.station.Station.{Station}
 use Rattle.rules.specs.declared.run.Mode.{Mode}
 use Rattle.rules.specs.declared.run.Mode.TheVariants.{Off, Warming, On, Cooling, Service}
 use Rattle.rules.specs.declared.run.SetState.{SetState}
-use Rattle.rules.specs.declared.run.Held.{Held}
 use Rattle.rules.specs.declared.run.Totals.{Totals}
 use Rattle.rules.specs.declared.run.Run.{Run}
 use Rattle.rules.specs.StationFile.{control_of, battery_of, set_of}
@@ -92,7 +92,7 @@ totals_with ns =
       unserved = get_or ns 8 0;
     }
 
-abbrev pub run_with : List ℕ → Held → List SetState → List ℕ → List ℕ → Run
+abbrev pub run_with : List ℕ → Option Float → List SetState → List ℕ → List ℕ → Run
 run_with ns setpoint states decided totals =
     record {
       done = get_or ns 0 0;

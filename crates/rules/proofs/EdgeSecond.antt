@@ -1,15 +1,15 @@
 -- Document 01, "One second", three whole seconds worked by hand, with the row, the record and the buffer that each leaves; and the refusals of a
 -- second at both sides of each limit, in their order. By computation. Assumes nothing.
+use Rattle.std.specs.Prelude.{Some, None, Option}
 use Prim.Native.Nat.{ℕ}
 use mathlib.Core.Path.{◌≡◌, refl}
 use mathlib.Core.List.{List, [], ◌∷◌, ◌++◌, map}
 use lib.ListN.{take, set, replicate}
+use lib.Ieee.{Float}
 use lib.Ieee
 use lib.Count
 use Rattle.rules.specs.declared.station.Station.{Station}
 use Rattle.rules.specs.declared.run.Mode.TheVariants.{Off, Warming, On}
-use Rattle.rules.specs.declared.run.Held.{Held}
-use Rattle.rules.specs.declared.run.Held.TheVariants.{Absent, At}
 use Rattle.rules.specs.declared.run.Totals.{Totals}
 use Rattle.rules.specs.declared.run.Inputs.{Inputs}
 use Rattle.rules.specs.declared.run.Run.{Run}
@@ -70,7 +70,7 @@ total_numbers t = t.offered ∷ t.load ∷ t.shed ∷ t.solar ∷ t.charge ∷ t
 
 abbrev pub short : Run
 short =
-    run_with (10 ∷ 9 ∷ 1 ∷ 1000100 ∷ []) (At (float 90000))
+    run_with (10 ∷ 9 ∷ 1 ∷ 1000100 ∷ []) (Some (float 90000))
     (state_with Off (5 ∷ 4 ∷ 3 ∷ 2 ∷ 1000 ∷ 2000 ∷ []) ∷ state_with On (7 ∷ 6 ∷ 2 ∷ 1 ∷ 3000 ∷ 4000 ∷ []) ∷ []) (5000 ∷ 6000 ∷ []) totals
 
 abbrev short_in : Inputs
@@ -92,7 +92,7 @@ short_cases =
 
 abbrev sunny : Run
 sunny =
-    run_with (10 ∷ 9 ∷ 3 ∷ 8990000 ∷ []) Absent
+    run_with (10 ∷ 9 ∷ 3 ∷ 8990000 ∷ []) None
     (state_with (Warming 1) (5 ∷ 49 ∷ 3 ∷ 2 ∷ 1000 ∷ 2000 ∷ []) ∷ state_with On (7 ∷ 6 ∷ 2 ∷ 1 ∷ 3000 ∷ 4000 ∷ []) ∷ []) [] totals
 
 abbrev later : Station
@@ -122,7 +122,7 @@ bright = station_with (10000 ∷ 50 ∷ 40 ∷ 30 ∷ 2 ∷ 500 ∷ 3 ∷ 1 ∷ 
 
 abbrev shedding : Run
 shedding =
-    run_with (20 ∷ 18 ∷ 1 ∷ 1000000 ∷ []) (At (float 60000))
+    run_with (20 ∷ 18 ∷ 1 ∷ 1000000 ∷ []) (Some (float 60000))
     (state_with On (5 ∷ 4 ∷ 3 ∷ 2 ∷ 1000 ∷ 2000 ∷ []) ∷ state_with Off (7 ∷ 6 ∷ 2 ∷ 1 ∷ 3000 ∷ 4000 ∷ []) ∷ []) (15000 ∷ 7000 ∷ []) totals
 
 abbrev shedding_in : Inputs
@@ -156,7 +156,7 @@ answered a = shown (length_answered a)
 
 -- one number of the record changed
 abbrev pub numbered : ℕ → ℕ → Run
-numbered i n = run_with (set (10 ∷ 9 ∷ 1 ∷ 1000100 ∷ []) i n) Absent (state_with Off [] ∷ state_with On [] ∷ []) [] []
+numbered i n = run_with (set (10 ∷ 9 ∷ 1 ∷ 1000100 ∷ []) i n) None (state_with Off [] ∷ state_with On [] ∷ []) [] []
 
 abbrev call_cases : List Case
 call_cases =
@@ -200,9 +200,9 @@ unfolding Numbers.every Bytes.bytes Bytes.digits_in Bytes.decimal Bytes.comma_li
 second-edges = refl
 
 -- "held x (k/1000) + wanted x ((1000-k)/1000)"; "With none held, held becomes wanted"
-abbrev held_left : List Held
+abbrev held_left : List (Option Float)
 held_left = (step station short short_in).run.setpoint ∷ (step station sunny sunny_in).run.setpoint ∷ (step bright shedding shedding_in).run.setpoint ∷ []
 
-pub held-left : held_left ≡ At (float 88499) ∷ At (float 69000) ∷ At (float 55000) ∷ []
+pub held-left : held_left ≡ Some (float 88499) ∷ Some (float 69000) ∷ Some (float 55000) ∷ []
 unfolding Numbers.sum_to Numbers.all_to Numbers.tab Numbers.mask_of StationRecord.past_end StationRecord.set_at Share.running_total Share.capacity Share.share Fuel.exact_line Fuel.lower_of Fuel.lower_point Fuel.exact_from Fuel.fuel_rate Modes.state_at Modes.due Modes.tick_from Modes.tick Modes.ticked Modes.on_mask Flows.floor_load Flows.shed_now Flows.solar_on_load Flows.battery_gives Flows.battery_takes Flows.store_after Flows.diesel_for Flows.watts_with Flows.watts_for Flows.shed_decided Flows.decided_after Setpoint.coverage_of Setpoint.reserve Setpoint.wanted_for Setpoint.float Setpoint.thousandths Setpoint.filter_of Setpoint.filtered Setpoint.held_after Setpoint.covers Configuration.mask_called Configuration.usable Configuration.usable_covering Configuration.first_covering Configuration.greatest_usable Configuration.chosen Commands.counted Commands.counted_all Commands.command_from Commands.command Commands.every_on Commands.commanded_all Second.states_now Second.on_now Second.cap_now Second.floor_now Second.watts_now Second.store_now Second.decided_now Second.ran_now Second.held_now Second.call_now Second.commanded_now Second.record_after Second.row_after Second.step Ieee.span Ieee.climb Ieee.size Ieee.odd Ieee.units Ieee.round Ieee.sum Ieee.add Ieee.mul Ieee.div Ieee.lt Ieee.eq Ieee.le Ieee.of_int Count.ones Count.ones_in Count.count_trailing_zeros
 held-left = refl

@@ -1,12 +1,12 @@
 -- Document 01, step 9, at numbers that no worked case has: a reserve that decides, with live load, and a filter that keeps half. By
 -- computation. Assumes nothing.
+use Rattle.std.specs.Prelude.{Some, None}
 use Prim.Native.Nat.{ℕ}
 use mathlib.Core.Path.{◌≡◌, refl}
 use mathlib.Core.List.{List, [], ◌∷◌}
 use lib.Ieee.{Float}
 use lib.Ieee
 use Rattle.rules.specs.declared.station.Control.{Control}
-use Rattle.rules.specs.declared.run.Held.TheVariants.{Absent, At}
 use Rattle.rules.specs.Setpoint.{coverage_of, reserve, wanted_for, float, thousandths, filter_of, filtered, held_after}
 
 control : ℕ → ℕ → Control
@@ -21,6 +21,6 @@ unfolding wanted control wanted_for reserve coverage_of
 wanted-decides = refl
 
 -- "With none held, held becomes wanted"; else with k 250 a quarter of 32,000 and three quarters of 76,000
-held-follows : ◌≡◌ {A = List Float} (held_after 250 Absent 76000 ∷ held_after 250 (At (float 32000)) 76000 ∷ held_after 0 (At (float 32000)) 76000 ∷ []) (float 76000 ∷ float 65000 ∷ float 76000 ∷ [])
+held-follows : ◌≡◌ {A = List Float} (held_after 250 None 76000 ∷ held_after 250 (Some (float 32000)) 76000 ∷ held_after 0 (Some (float 32000)) 76000 ∷ []) (float 76000 ∷ float 65000 ∷ float 76000 ∷ [])
 unfolding held_after filtered filter_of thousandths float Ieee.span Ieee.climb Ieee.size Ieee.odd Ieee.units Ieee.round Ieee.sum Ieee.add Ieee.mul Ieee.div Ieee.lt Ieee.eq Ieee.le Ieee.of_int
 held-follows = refl

@@ -1,12 +1,9 @@
 -- Document 01, "Refusal numbers": "Answer: the number and its place from 1".
--- An answer of a definition is a value, or the number and the place of a refusal. The enums that the code answers with
--- are read here, and nowhere else: each case with the paper's number, its place and its value.
-use Rattle.std.specs.Prelude.{ℕ, Bool, true, false, List, [], ◌∷◌}
+-- An answer of a definition is a value, or the number and the place of a refusal. The code answers with a value or a
+-- `Refusal`, which is read here, and nowhere else: each case with the paper's number and its place.
+use Rattle.std.specs.Prelude.{ℕ, Bool, true, false, List, [], ◌∷◌, Ok, Err, Result}
 use Rattle.rules.specs.declared.answers.Refusal.{Refusal}
 use Rattle.rules.specs.declared.answers.Refusal.TheVariants.{StationSize, ContentsEntry, ContentsSize, ControlValue, BatteryValue, SetNumber, SetPairs, ConfigurationMask, LineLength, HeadingBlank, HeadingUnknown, HeadingTwice, HeadingMissing, FirstHeading, CellCount, Malformed, OverLimit, SheddableAboveLoad, FirstTime, NoRow, RunEnded, RunRecord, StationRecord, RowBuffer}
-use Rattle.rules.specs.declared.answers.Verdict.{Verdict}
-use Rattle.rules.specs.declared.answers.Amount.{Amount}
-use Rattle.rules.specs.declared.answers.Outcome.{Outcome}
 
 pub data Answer (A : Type 0) : Type 0 where
   accepted : A → Answer A
@@ -80,15 +77,7 @@ number_and_place RowBuffer = (26, 0)
 abbrev pub refusal_of : {A : Type 0} → Refusal → Answer A
 refusal_of r = refused (number_and_place r).0 (number_and_place r).1
 
-abbrev pub verdict_of : Verdict → Answer (Unit {0})
-verdict_of Verdict.Accepted = accepted tt
-verdict_of (Verdict.Refused r) = refusal_of r
-
-abbrev pub amount_of : Amount → Answer ℕ
-amount_of (Amount.Value v) = accepted v
-amount_of (Amount.Refused r) = refusal_of r
-
--- the value is the row's length
-abbrev pub outcome_of : Outcome → Answer ℕ
-outcome_of (Outcome.Row size) = accepted size
-outcome_of (Outcome.Refused r) = refusal_of r
+-- an answer in code: its value, or the paper's number and place of its refusal
+abbrev pub result_of : {A : Type 0} → Result A Refusal → Answer A
+result_of (Ok a) = accepted a
+result_of (Err r) = refusal_of r

@@ -1,11 +1,10 @@
 -- Document 01: the run's record at the start, and "A run record is possible when" (24).
-use Rattle.std.specs.Prelude.{ℕ, ◌*◌, Bool, true, ◌&&◌, List, [], ◌∷◌, get_or, replicate, leb, ltb, if◌then◌else◌}
+use Rattle.std.specs.Prelude.{ℕ, ◌*◌, Bool, true, ◌&&◌, List, [], ◌∷◌, get_or, replicate, leb, ltb, if◌then◌else◌, None}
 use Rattle.rules.specs.declared.station.GenSet.{GenSet}
 use Rattle.rules.specs.declared.station.Station.{Station}
 use Rattle.rules.specs.declared.run.Mode.{Mode}
 use Rattle.rules.specs.declared.run.Mode.TheVariants.{Off, Warming, On, Cooling, Service}
 use Rattle.rules.specs.declared.run.SetState.{SetState}
-use Rattle.rules.specs.declared.run.Held.TheVariants.{Absent}
 use Rattle.rules.specs.declared.run.Totals.{Totals}
 use Rattle.rules.specs.declared.run.Run.{Run}
 use Rattle.rules.specs.Numbers.{within, has, all_to, tab, all_hold, all_zero}
@@ -28,7 +27,7 @@ start_record st =
       since = 0;
       called = 0;
       store = st.battery.start;
-      setpoint = Absent;
+      setpoint = None;
       sets = tab 8 (λ i. fresh (if has st.control.online i then On else Off));
       decided = replicate 60 0;
       totals = no_totals;

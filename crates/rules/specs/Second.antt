@@ -1,9 +1,8 @@
 -- Document 01, "One second": the eleven steps in their order, and what a call of a second owes.
-use Rattle.std.specs.Prelude.{ℕ, ◌+◌, Bool, ◌&&◌, List, ◌++◌, ◌≡◌, length, get_or, drop, leb, ltb, Float}
+use Rattle.std.specs.Prelude.{ℕ, ◌+◌, Bool, ◌&&◌, List, ◌++◌, ◌≡◌, length, get_or, drop, leb, ltb, Float, Some}
 use Rattle.std.specs.Int.Count.{ones}
 use Rattle.rules.specs.declared.station.Station.{Station}
 use Rattle.rules.specs.declared.run.SetState.{SetState}
-use Rattle.rules.specs.declared.run.Held.TheVariants.{At}
 use Rattle.rules.specs.declared.run.Watts.{Watts}
 use Rattle.rules.specs.declared.run.Totals.{Totals}
 use Rattle.rules.specs.declared.run.Inputs.{Inputs}
@@ -11,7 +10,7 @@ use Rattle.rules.specs.declared.run.Run.{Run}
 use Rattle.rules.specs.declared.run.Row.{Row}
 use Rattle.rules.specs.declared.run.Step.{Step}
 use Rattle.rules.specs.declared.run.Handed.{Handed}
-use Rattle.rules.specs.Answers.{Answer, accepted, refused, need, ◌>>◌, outcome_of}
+use Rattle.rules.specs.Answers.{Answer, accepted, refused, need, ◌>>◌, result_of}
 use Rattle.rules.specs.StationRecord.{some_file_gives}
 use Rattle.rules.specs.Share.{capacity}
 use Rattle.rules.specs.Modes.{ticked, on_mask}
@@ -90,7 +89,7 @@ record_after st r x w =
       since = since_after (call_now st r x w) r.called r.since r.done;
       called = call_now st r x w;
       store = store_now st r w;
-      setpoint = At (held_now st r x w);
+      setpoint = Some (held_now st r x w);
       sets = commanded_now st r x w;
       decided = decided_now st r x w;
       totals = plus r.totals w;
@@ -151,6 +150,6 @@ buffer_left lent (refused number place) = lent
 
 -- What a call of a second owes, for every input: its answer, the record that it hands back, the buffer as it is left.
 pub record Second (st : Station) (r : Run) (x : Inputs) (lent : List ℕ) (handed : Handed) (left : List ℕ) : Type 0 where
-  pub answers : outcome_of handed.answer ≡ length_answered (second st r x (length lent))
+  pub answers : result_of handed.answer ≡ length_answered (second st r x (length lent))
   pub hands : handed.run ≡ record_handed r (second st r x (length lent))
   pub leaves : left ≡ buffer_left lent (second st r x (length lent))

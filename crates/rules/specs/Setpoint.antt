@@ -1,10 +1,8 @@
 -- Document 01, step 9: the reserve, what is wanted, and the filter, in double precision.
-use Rattle.std.specs.Prelude.{ℕ, ◌+◌, ◌-◌, ◌*◌, ◌/◌, max, Bool, pos, eqb, Float, if◌then◌else◌}
+use Rattle.std.specs.Prelude.{ℕ, ◌+◌, ◌-◌, ◌*◌, ◌/◌, max, Bool, pos, eqb, Float, if◌then◌else◌, Some, None, Option}
 use Rattle.std.specs.Float.{binary64}
 use Rattle.std.specs.Float.Ieee.{add, mul, div, le, of_int}
 use Rattle.rules.specs.declared.station.Control.{Control}
-use Rattle.rules.specs.declared.run.Held.{Held}
-use Rattle.rules.specs.declared.run.Held.TheVariants.{Absent, At}
 use Rattle.rules.specs.declared.run.Filter.{Filter}
 
 -- "Coverage = solar on load x coverage % / 100, rounded up."
@@ -46,9 +44,9 @@ filtered f wanted =
     }
 
 -- "With none held, held becomes wanted"
-unfoldable pub held_after : ℕ → Held → ℕ → Float
-held_after k Absent wanted = float wanted
-held_after k (At held) wanted = (filtered (filter_of k held) (float wanted)).held
+unfoldable pub held_after : ℕ → Option Float → ℕ → Float
+held_after k None wanted = float wanted
+held_after k (Some held) wanted = (filtered (filter_of k held) (float wanted)).held
 
 -- step 10: "It covers when held <= capacity"
 unfoldable pub covers : Float → ℕ → Bool

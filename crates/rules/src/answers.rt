@@ -30,27 +30,6 @@ pub enum Refusal {
     RowBuffer,
 }
 
-// Whether a file is good.
-#[derive(Clone, Copy)]
-pub enum Verdict {
-    Accepted,
-    Refused(Refusal),
-}
-
-// A number that an argument or the sizing screen gives.
-#[derive(Clone, Copy)]
-pub enum Amount {
-    Value(u64),
-    Refused(Refusal),
-}
-
-// What a second answers: its row's length with the LF, in bytes.
-#[derive(Clone, Copy)]
-pub enum Outcome {
-    Row(usize),
-    Refused(Refusal),
-}
-
 // Why a call of many seconds worked no more of them. None of these is a refusal of document 01: whoever wants the number of a second
 // that the rules refuse asks for that second alone.
 #[derive(Clone, Copy)]

@@ -1,5 +1,5 @@
 // The run's record, by value, and what a second works out.
-use crate::answers::{Ended, Outcome};
+use crate::answers::{Ended, Refusal};
 
 // A set's mode, with the seconds that it still has.
 #[derive(Clone, Copy)]
@@ -24,13 +24,6 @@ pub struct SetState {
     pub energy: u64,
     // in units of 1/3600 mL
     pub fuel: u64,
-}
-
-// Until the first second there is no held setpoint.
-#[derive(Clone, Copy)]
-pub enum Held {
-    Absent,
-    At(f64),
 }
 
 // The filter's two weights and its held number.
@@ -79,7 +72,7 @@ pub struct Run {
     pub called: usize,
     // battery content ("store"), in hundredths of a Ws
     pub store: u64,
-    pub setpoint: Held,
+    pub setpoint: Option<f64>,
     pub sets: [SetState; 8],
     // decided shed amounts, oldest first
     pub decided: [u32; 60],
@@ -119,7 +112,7 @@ pub struct Step {
 // A call's answer with the record that it hands back.
 #[derive(Clone, Copy)]
 pub struct Handed {
-    pub answer: Outcome,
+    pub answer: Result<usize, Refusal>,
     pub run: Run,
 }
 

@@ -1,4 +1,5 @@
 -- What the seconds asked come to with both files: a refusal's line, or a run that begins. Assumes nothing.
+use Rattle.std.specs.Prelude.{Ok, Err, Result}
 use Prim.Native.Nat.{ℕ, ◌+◌, ◌≤◌}
 use mathlib.Core.Path.{◌≡◌, refl, sym, ap, ◌∙◌, subst}
 use mathlib.Core.Bool.{Bool, true, false}
@@ -8,10 +9,9 @@ use native.Mathlib.Decide.{dec_le}
 use lib.ListN.{length, take, drop, length-take, take-append-drop}
 use lib.Seq.{take_all, take-append_seam}
 use borrow.Author.Tests.{leb-false}
-use Rattle.rules.specs.declared.answers.Outcome.{Outcome}
 use Rattle.rules.specs.declared.answers.Refusal.{Refusal}
 use Rattle.rules.specs.declared.station.Station.{Station}
-use Rattle.rules.specs.Answers.{Answer, accepted, refused, value_or}
+use Rattle.rules.specs.Answers.{Answer, accepted, refused, value_or, result_of}
 use Rattle.rules.specs.StationFile.{station_file}
 use Rattle.rules.specs.Run.{seconds_asked}
 use Rattle.rules.proofs.Tests.{never}
@@ -20,9 +20,8 @@ use Rattle.rows.specs.Written.{TextPut}
 use Rattle.rows.proofs.Room.{put-means, none-means}
 use Rattle.station.specs.Stations.{station_with}
 use Rattle.arguments.proofs.SecondsAsked.{long-asked}
-use Rattle.samples.specs.declared.check.Checked.{Checked}
 use Rattle.samples.specs.declared.check.Span.{Span}
-use Rattle.samples.specs.Streamed.{sheet_span, checked_with, checked_of}
+use Rattle.samples.specs.Streamed.{sheet_span, checked_with}
 use Rattle.input_source.specs.Source.{source_ended}
 use Rattle.course.specs.Coming as coming
 use Rattle.run_phases.specs.declared.state.Phase.{Phase}
@@ -57,18 +56,18 @@ asked-cut s n ten = go (dec_le (length s) n)
 
 -- ---- a refusal's line
 
-line-put : (line lent : List ℕ) (answer : Outcome) (size : ℕ) (left : List ℕ) → answer ≡ Outcome.Row size → TextPut line lent answer left → take size left ≡ line
+line-put : (line lent : List ℕ) (answer : Result ℕ Refusal) (size : ℕ) (left : List ℕ) → answer ≡ Ok size → TextPut line lent answer left → take size left ≡ line
 line-put line lent answer size left is t =
     let m = put-means line lent answer size left is t in
     ap (λ (n : ℕ). take n left) m.size_is ∙ ap (take (length line)) m.left_is ∙ take-append_seam line (drop (length line) lent)
 
-pub refusal-put : (h : Held) (refusal : Refusal) (out : List ℕ) (answer : Outcome) (size : ℕ) (out' : List ℕ) → answer ≡ Outcome.Row size → TextPut (refused_line refusal) out answer out'
+pub refusal-put : (h : Held) (refusal : Refusal) (out : List ℕ) (answer : Result ℕ Refusal) (size : ℕ) (out' : List ℕ) → answer ≡ Ok size → TextPut (refused_line refusal) out answer out'
     → Answers h refusal out (record { stage = Stage.Answer size refusal; held = h }) out'
 unfolding Answers
 refusal-put h refusal out answer size out' told put g w buf roomy is called none = (record { called = called; line = line-put (refused_line refusal) out answer size out' told put ∙ sym is; carried = is; unwritten = none }, omega arith, λ well. refl)
 
 -- a buffer of 256 bytes has room for it
-pub refusal-stop : (h : Held) (refusal : Refusal) (out : List ℕ) (answer : Outcome) (refused-so : Refusal) (out' : List ℕ) (why : Why) (r : Machine) → answer ≡ Outcome.Refused refused-so → TextPut (refused_line refusal) out answer out'
+pub refusal-stop : (h : Held) (refusal : Refusal) (out : List ℕ) (answer : Result ℕ Refusal) (refused-so : Refusal) (out' : List ℕ) (why : Why) (r : Machine) → answer ≡ Err refused-so → TextPut (refused_line refusal) out answer out'
     → r ≡ stopping h why → Answers h refusal out r out'
 unfolding Answers
 refusal-stop h refusal out answer refused-so out' why r told put stop g w buf roomy is called none =
@@ -82,21 +81,21 @@ checked-for (accepted st) checked samples k = k st refl
 checked-for (refused n p) checked samples k = tt
 
 -- `begin` was handed what is held
-abbrev pub BegunWith : Held → List ℕ → Checked → Simulation → Type 0
-BegunWith h asked v s = BegunAs (station_with h.judging.held.file []) (checked_of v) (seconds_asked asked) s
+abbrev pub BegunWith : Held → List ℕ → Result Span Refusal → Simulation → Type 0
+BegunWith h asked v s = BegunAs (station_with h.judging.held.file []) (result_of v) (seconds_asked asked) s
 
-begun-as : (g : Given) (h : Held) (w : World) (asked : List ℕ) (v : Checked) (s : Simulation) → Asking g h w → seconds_asked asked ≡ seconds_asked g.asked → checked_of v ≡ checked_with h.judging.held.check [] → BegunWith h asked v s
+begun-as : (g : Given) (h : Held) (w : World) (asked : List ℕ) (v : Result Span Refusal) (s : Simulation) → Asking g h w → seconds_asked asked ≡ seconds_asked g.asked → result_of v ≡ checked_with h.judging.held.check [] → BegunWith h asked v s
     → BegunAs (station_file g.station) (checked_with h.judging.held.check []) (seconds_asked g.asked) s
 begun-as g h w asked v s a same is b =
     subst (λ (x : Answer Station). BegunAs x (checked_with h.judging.held.check []) (seconds_asked g.asked) s) a.files.station
-    (subst (λ (x : Answer Span). BegunAs (station_with h.judging.held.file []) x (seconds_asked g.asked) s) is (subst (λ (x : Answer ℕ). BegunAs (station_with h.judging.held.file []) (checked_of v) x s) same b))
+    (subst (λ (x : Answer Span). BegunAs (station_with h.judging.held.file []) x (seconds_asked g.asked) s) is (subst (λ (x : Answer ℕ). BegunAs (station_with h.judging.held.file []) (result_of v) x s) same b))
 
 starts : (g : Given) (h : Held) (w : World) (s : Simulation) → Asking g h w → BegunAs (station_file g.station) (checked_with h.judging.held.check []) (seconds_asked g.asked) s → Starts s g.samples (text g)
 starts g h w s a b =
     begins-right g.station g.samples g.asked (checked_with h.judging.held.check []) s (checked-for (station_file g.station) (checked_with h.judging.held.check []) g.samples a.files.check) b
 
 -- a refusal is all of its text
-pub refusal-begun : (h : Held) (asked out out' : List ℕ) (v : Checked) (s : Simulation) (refusal : Refusal) (r : Machine) → checked_of v ≡ checked_with h.judging.held.check [] → BegunWith h asked v s
+pub refusal-begun : (h : Held) (asked out out' : List ℕ) (v : Result Span Refusal) (s : Simulation) (refusal : Refusal) (r : Machine) → result_of v ≡ checked_with h.judging.held.check [] → BegunWith h asked v s
     → s.phase ≡ Phase.Refusal refusal → Answers h refusal out r out' → Begun h asked out r out'
 unfolding Answers Begun text_of
 refusal-begun h asked out out' v s refusal r is b e answers g w buf roomy a same =
@@ -155,7 +154,7 @@ heading-weight s n e l =
     let u = unended-most (source_ended s.course.source) in
     omega (arith, r, l, u)
 
-pub run-begun : (h : Held) (asked out out' : List ℕ) (v : Checked) (s : Simulation) → checked_of v ≡ checked_with h.judging.held.check [] → BegunWith h asked v s
+pub run-begun : (h : Held) (asked out out' : List ℕ) (v : Result Span Refusal) (s : Simulation) → result_of v ≡ checked_with h.judging.held.check [] → BegunWith h asked v s
     → s.phase ≡ Phase.Heading → Begun h asked out (works_from h s) out'
 unfolding Begun
 run-begun h asked out out' v s is b e g w buf roomy a same =
@@ -193,11 +192,11 @@ begins-so (accepted st) (refused n k) q s b = ap is_begin b.phase-is
 begins-so (accepted st) (accepted span) (refused n k) s b = ap is_begin b.phase-is
 begins-so (accepted st) (accepted span) (accepted n) s b = ap is_begin b.phase-is
 
-pub begun-stops : (h : Held) (asked out out' : List ℕ) (v : Checked) (s : Simulation) (why : Why) (r : Machine) → BegunWith h asked v s → is_begin s.phase ≡ false → r ≡ stopping h why → Begun h asked out r out'
+pub begun-stops : (h : Held) (asked out out' : List ℕ) (v : Result Span Refusal) (s : Simulation) (why : Why) (r : Machine) → BegunWith h asked v s → is_begin s.phase ≡ false → r ≡ stopping h why → Begun h asked out r out'
 unfolding Begun
 begun-stops h asked out out' v s why r b e is g w buf roomy a same =
     none-stop g h w buf out' _ _ why r is a.unwritten (omega arith)
-    (λ well. never (sym e ∙ begins-so (station_with h.judging.held.file []) (checked_of v) (seconds_asked asked) s b))
+    (λ well. never (sym e ∙ begins-so (station_with h.judging.held.file []) (result_of v) (seconds_asked asked) s b))
 
 pub asked-steps : (h : Held) (n : ℕ) (buf asked out out' : List ℕ) (r : Machine) → asked ≡ take n buf → Begun h asked out r out' → StepsFrom Stage.AskSeconds h (Event.Read n) buf out r out'
 unfolding StepsFrom Begun

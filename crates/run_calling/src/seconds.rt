@@ -8,7 +8,7 @@ ghost use Rattle.run_calling.specs.Calls.{Answers, Begun};
 use exchange::action::Why;
 use exchange::event::Event;
 use rows::run_lines::put_refused;
-use rules::answers::{Outcome, Refusal};
+use rules::answers::Refusal;
 use run_phases::begin::begin;
 use run_phases::state::{Phase, Simulation, phase_of};
 use run_stages::state::{Held, Machine, Stage, stopped};
@@ -20,11 +20,11 @@ fn refused(held: Held, refusal: Refusal, out: &mut [u8]) -> Machine
 {
     let put = put_refused(refusal, out);
     match put {
-        Outcome::Row(size) => Machine {
+        Ok(size) => Machine {
             stage: Stage::Answer(size, refusal),
             held,
         },
-        Outcome::Refused(_) => stopped(held, Why::SmallBuffer),
+        Err(_) => stopped(held, Why::SmallBuffer),
     }
 }
 

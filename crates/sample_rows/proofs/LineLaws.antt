@@ -1,5 +1,5 @@
 -- The lines of a file that comes in pieces, and the bytes of a line that are put together. Assumes nothing.
-use Rattle.std.specs.Prelude.{if◌then◌else◌}
+use Rattle.std.specs.Prelude.{if◌then◌else◌, Ok, Err, Some, None, Result, Option}
 use Prim.Native.Nat.{ℕ, zero, suc, ◌+◌, ◌-◌, ◌≤◌, ◌<◌, min}
 use mathlib.Core.Path.{◌≡◌, refl, sym, ap, ◌∙◌}
 use mathlib.Core.Bool.{Bool, true, false}
@@ -14,13 +14,11 @@ use borrow.Author.Tests.{le-leb, lt-leb, eq-eqb, ne_eqb}
 use Rattle.byte_search.specs.Bytes.{index_after, index_of, slice}
 use Rattle.rules.specs.declared.samples.Sample.{Sample}
 use Rattle.rules.specs.declared.answers.Refusal.{Refusal}
-use Rattle.rules.specs.declared.answers.Verdict.{Verdict}
-use Rattle.rules.specs.Answers.{Answer, accepted, refused, refusal_of, verdict_of, ◌>>=◌}
+use Rattle.rules.specs.Answers.{Answer, accepted, refused, refusal_of, result_of, ◌>>=◌}
 use Rattle.rules.specs.SampleFile.{sample_sheet, sheet_lines, sample_of, sample_file}
 use Rattle.rules.specs.Bytes.{LF, CR, in_front, parts}
 use Rattle.rules.specs.Lines.{Line, without_cr, ended, at_end, lines_of, lines}
 use Rattle.sheet_stages.specs.declared.stage.Stage.{Stage}
-use Rattle.sheet_stages.specs.declared.stage.Found.{Found}
 use Rattle.sheet_stages.specs.ToCome.{most_place, placed, samples_of, answer_from, RowsRead, up_to_refused, to_come, file_rows, row_first, answer_of, all_read, end_of, is_row}
 use Rattle.sample_rows.specs.declared.reader.SampleReader.{SampleReader}
 use Rattle.sample_rows.specs.Streamed.{begun_with, lines_after, begun_in, yet_to_come}
@@ -253,7 +251,7 @@ module _ (chunk : List ℕ) (next end : ℕ) (first : end ≡ next + index_of LF
       rw place (drop-drop (suc (end - next)) next chunk ∙ ap (λ (n : ℕ). drop n chunk) e)
 
   -- the line up to that LF leads to what it gave, and then to what the bytes after the LF come to
-  pub one_line : (stage after : Stage) (found : Found) (begun rest : List ℕ) → end < length chunk
+  pub one_line : (stage after : Stage) (found : Option Sample) (begun rest : List ℕ) → end < length chunk
       → ((ls : List Line) → to_come stage (ended (begun ++ take (end - next) (drop next chunk)) ∷ ls) ≡ row_first found (to_come after ls))
       → to_come stage (lines_after begun (drop next chunk ++ rest)) ≡ row_first found (to_come after (lines_after [] (drop (end + 1) chunk ++ rest)))
   one_line stage after found begun rest h ends =
@@ -271,7 +269,7 @@ line-told text d rest h =
     ∙ ap (λ (t : List ℕ). ended t ∷ lines_after [] (d ++ rest)) (append-nil text)
 
 -- the line leads to what its row gave, and then to what the bytes after its LF come to
-pub usual-told : (chunk : List ℕ) (at : ℕ) (columns : Columns) (last lines line : ℕ) (x : Sample) (next : ℕ) (after : Stage) (found : Found) → UsualRight columns chunk at x next
+pub usual-told : (chunk : List ℕ) (at : ℕ) (columns : Columns) (last lines line : ℕ) (x : Sample) (next : ℕ) (after : Stage) (found : Option Sample) → UsualRight columns chunk at x next
     → ((l : Line) (ls : List Line) (lines : ℕ) → line ≡ min (suc lines) most_place → accepted x ≡ row_in columns line l → to_come (Stage.LaterRows columns last lines) (l ∷ ls) ≡ row_first found (to_come after ls))
     → line ≡ min (suc lines) most_place → (rest : List ℕ)
     → to_come (Stage.LaterRows columns last lines) (lines_after [] (drop at chunk ++ rest)) ≡ row_first found (to_come after (lines_after [] (drop next chunk ++ rest)))
@@ -296,16 +294,16 @@ unfolding file_rows sample_file
 file-answer s = answer-read (λ (ls : List Line). placed (samples_of (sheet_lines sample_sheet ls))) (lines s) ∙ ap placed (rows_are (sheet_lines sample_sheet (lines s)))
 
 -- the end of the file, after a line that gave `found`
-pub ending-refused : (found : Found) (v : Verdict) (a : RowsRead) (r : Refusal) → v ≡ Verdict.Refused r → end_of v ≡ a → (is_row found ≡ true → a.verdict ≡ accepted tt)
+pub ending-refused : (found : Option Sample) (v : Result (Unit {0}) Refusal) (a : RowsRead) (r : Refusal) → v ≡ Err r → end_of v ≡ a → (is_row found ≡ true → a.verdict ≡ accepted tt)
     → record { rows = []; verdict = refusal_of r } ≡ row_first found a
-ending-refused (Found.Row x) v a r p e unrefused = not-accepted _ _ tt (ap (λ (w : Verdict). verdict_of w) (sym p) ∙ ap (λ (r : RowsRead). r.verdict) e ∙ unrefused refl)
-ending-refused Found.Nothing v a r p e unrefused = ap end_of (sym p) ∙ e
+ending-refused (Some x) v a r p e unrefused = not-accepted _ _ tt (ap (λ (w : Result (Unit {0}) Refusal). result_of w) (sym p) ∙ ap (λ (r : RowsRead). r.verdict) e ∙ unrefused refl)
+ending-refused None v a r p e unrefused = ap end_of (sym p) ∙ e
 
-pub ending-row : (found : Found) (v : Verdict) (a : RowsRead) (x : Sample) → found ≡ Found.Row x → v ≡ Verdict.Accepted → end_of v ≡ a → all_read (x ∷ []) ≡ row_first found a
-ending-row found v a x f p e = ap (row_first (Found.Row x)) (ap end_of (sym p) ∙ e) ∙ ap (λ (g : Found). row_first g a) (sym f)
+pub ending-row : (found : Option Sample) (v : Result (Unit {0}) Refusal) (a : RowsRead) (x : Sample) → found ≡ Some x → v ≡ Ok tt → end_of v ≡ a → all_read (x ∷ []) ≡ row_first found a
+ending-row found v a x f p e = ap (row_first (Some x)) (ap end_of (sym p) ∙ e) ∙ ap (λ (g : Option Sample). row_first g a) (sym f)
 
-pub ending-nothing : (found : Found) (v : Verdict) (a : RowsRead) → found ≡ Found.Nothing → v ≡ Verdict.Accepted → end_of v ≡ a → all_read [] ≡ row_first found a
-ending-nothing found v a f p e = ap end_of (sym p) ∙ e ∙ ap (λ (g : Found). row_first g a) (sym f)
+pub ending-nothing : (found : Option Sample) (v : Result (Unit {0}) Refusal) (a : RowsRead) → found ≡ None → v ≡ Ok tt → end_of v ≡ a → all_read [] ≡ row_first found a
+ending-nothing found v a f p e = ap end_of (sym p) ∙ e ∙ ap (λ (g : Option Sample). row_first g a) (sym f)
 
 -- a last line without LF is a line
 pub last_line : (s : List ℕ) → 0 < length s → lines_after s [] ≡ record { size = length s; text = s } ∷ []

@@ -1,6 +1,6 @@
 -- The sample file in chunks: what a reader that holds the beginning of a file comes to with any rest of it.
 -- What a call owes is stated over every rest, so that calls chain.
-use Rattle.std.specs.Prelude.{ℕ, min, ◌≤◌, ◌<◌, ◌≡◌, Bool, true, false, List, [], ◌∷◌, ◌++◌, length, take, drop}
+use Rattle.std.specs.Prelude.{ℕ, min, ◌≤◌, ◌<◌, ◌≡◌, Bool, true, false, List, [], ◌∷◌, ◌++◌, length, take, drop, Ok, Err, Some, None, Result, Option}
 use Rattle.byte_search.specs.Bytes.{index_of}
 use Rattle.rules.specs.Bytes.{LF, parts}
 use Rattle.rules.specs.Lines.{Line, without_cr, lines_of}
@@ -10,8 +10,9 @@ use Rattle.sample_rows.specs.declared.reader.SampleReader.{SampleReader}
 use Rattle.sample_rows.specs.declared.reader.LineTurn.{LineTurn}
 use Rattle.sample_rows.specs.declared.reader.NextRow.{NextRow}
 use Rattle.sample_rows.specs.declared.reader.Pulled.{Pulled}
-use Rattle.sample_rows.specs.declared.reader.Ending.{Ending}
 use Rattle.sheet_stages.specs.ToCome.{RowsRead, to_come, row_first, all_read, is_row}
+use Rattle.rules.specs.declared.answers.Refusal.{Refusal}
+use Rattle.rules.specs.declared.samples.Sample.{Sample}
 
 -- ---- lines
 
@@ -62,7 +63,7 @@ pub record PulledRight (m : SampleReader) (chunk : List ℕ) (at : ℕ) (r : Pul
   pub exhausted : is_row r.found ≡ false → r.next ≡ length chunk
 
 -- what the end of the file gives
-abbrev pub ending_of : Ending → RowsRead
-ending_of (Ending.LastRow x) = all_read (x ∷ [])
-ending_of Ending.NoRow = all_read []
-ending_of (Ending.Refused r) = record { rows = []; verdict = refusal_of r }
+abbrev pub ending_of : Result (Option Sample) Refusal → RowsRead
+ending_of (Ok (Some x)) = all_read (x ∷ [])
+ending_of (Ok None) = all_read []
+ending_of (Err r) = record { rows = []; verdict = refusal_of r }

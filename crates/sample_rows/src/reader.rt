@@ -5,14 +5,11 @@ ghost use Rattle.sheet_stages.specs.ToCome.{to_come, file_rows, row_first, is_ro
 ghost use Rattle.sample_rows.specs.Streamed.{lines_after, begun_in, text_of, yet_to_come, LineRight, NextRight, PulledRight, ending_of};
 ghost use Rattle.rules.specs.Answers.{accepted};
 
-use rules::answers::{Refusal, Verdict};
+use rules::answers::Refusal;
 use rules::limits::MOST_LINE;
 use rules::samples::Sample;
-use sheet::rows::RowRead;
 use sheet_headings::headings::Columns;
-use sheet_stages::stage::{
-    Found, Stage, Turn, after_later, next_line, take_line, too_long, verdict_at,
-};
+use sheet_stages::stage::{Stage, Turn, after_later, next_line, take_line, too_long, verdict_at};
 use usual_rows::usual::{Usual, usual_row};
 use words::arithmetic::lesser;
 
@@ -29,14 +26,14 @@ pub struct SampleReader {
 pub struct Pulled {
     pub reader: SampleReader,
     pub next: usize,
-    pub found: Found,
+    pub found: Option<Sample>,
 }
 
 // What a line of a chunk gave, and the place after its LF; `ended` is false where the chunk has none.
 #[derive(Clone, Copy)]
 struct LineTurn {
     stage: Stage,
-    found: Found,
+    found: Option<Sample>,
     next: usize,
     ended: bool,
 }
@@ -47,15 +44,7 @@ pub struct NextRow {
     pub stage: Stage,
     pub len: usize,
     pub next: usize,
-    pub found: Found,
-}
-
-// What the end of the file gives: the row of a last line without LF, none, or the refusal.
-#[derive(Clone, Copy)]
-pub enum Ending {
-    LastRow(Sample),
-    NoRow,
-    Refused(Refusal),
+    pub found: Option<Sample>,
 }
 
 // A line with more bytes after those that it had; `fits` is false where it is longer than a line may be.
@@ -136,7 +125,7 @@ fn joined_line(stage: Stage, line: &[u8; 512], len: usize, more: &[u8]) -> Turn
     if !whole.fits {
         return Turn {
             stage: too_long(stage),
-            found: Found::Nothing,
+            found: None,
         };
     }
     let text = whole.line;
@@ -186,7 +175,7 @@ fn any_line(stage: Stage, line: &[u8; 512], len: usize, chunk: &[u8], at: usize)
     if chunk.len() <= end {
         return LineTurn {
             stage,
-            found: Found::Nothing,
+            found: None,
             next: at,
             ended: false,
         };
@@ -217,7 +206,7 @@ fn line_at(stage: Stage, line: &[u8; 512], len: usize, chunk: &[u8], at: usize) 
     let Usual::Row(sample, next) = usual else {
         return any_line(stage, line, len, chunk, at);
     };
-    let turn = after_later(columns, last, next_line(lines), RowRead::Values(sample));
+    let turn = after_later(columns, last, next_line(lines), Ok(sample));
     let after = turn.stage;
     let found = turn.found;
     LineTurn {
@@ -242,14 +231,14 @@ pub fn next_row(stage: Stage, line: &[u8; 512], len: usize, chunk: &[u8], at: us
                 stage: latest,
                 len: begun,
                 next,
-                found: Found::Nothing,
+                found: None,
             };
         }
         latest = turn.stage;
         begun = 0;
         next = turn.next;
         let found = turn.found;
-        let Found::Nothing = found else {
+        let None = found else {
             return NextRow {
                 stage: latest,
                 len: begun,
@@ -262,7 +251,7 @@ pub fn next_row(stage: Stage, line: &[u8; 512], len: usize, chunk: &[u8], at: us
         stage: latest,
         len: begun,
         next,
-        found: Found::Nothing,
+        found: None,
     }
 }
 
@@ -278,7 +267,7 @@ pub fn pull(reader: SampleReader, chunk: &[u8], at: usize) -> Pulled
     let next = row.next;
     let found = row.found;
     let after = SampleReader { line, len, stage };
-    let Found::Nothing = found else {
+    let None = found else {
         return Pulled {
             reader: after,
             next,
@@ -288,29 +277,29 @@ pub fn pull(reader: SampleReader, chunk: &[u8], at: usize) -> Pulled
     Pulled {
         reader: kept(after, &chunk[next..]),
         next: chunk.len(),
-        found: Found::Nothing,
+        found: None,
     }
 }
 
 // The end of the file after a line that gave this; a line that gives a row leaves no refusal.
-fn ended_at(turn: Turn) -> Ending
+fn ended_at(turn: Turn) -> Result<Option<Sample>, Refusal>
     requires { is_row turn.found ≡ true → (to_come turn.stage []).verdict ≡ accepted tt }
     ensures { ending_of result ≡ row_first turn.found (to_come turn.stage []) }
 {
     let stage = turn.stage;
     let verdict = verdict_at(stage);
-    if let Verdict::Refused(refusal) = verdict {
-        return Ending::Refused(refusal);
+    if let Err(refusal) = verdict {
+        return Err(refusal);
     }
     let found = turn.found;
     match found {
-        Found::Row(row) => Ending::LastRow(row),
-        Found::Nothing => Ending::NoRow,
+        Some(row) => Ok(Some(row)),
+        None => Ok(None),
     }
 }
 
 // The end of the file: "A line ends at LF .. or at the end of the file".
-pub fn end(reader: SampleReader) -> Ending
+pub fn end(reader: SampleReader) -> Result<Option<Sample>, Refusal>
     ensures { ending_of result ≡ yet_to_come reader [] }
 {
     let line = reader.line;
@@ -319,7 +308,7 @@ pub fn end(reader: SampleReader) -> Ending
     if len == 0 {
         return ended_at(Turn {
             stage,
-            found: Found::Nothing,
+            found: None,
         });
     }
     ended_at(whole_line(stage, &line[..len], false))

@@ -1,4 +1,5 @@
 -- The rows of a sheet, counted as they are pulled. Assumes nothing.
+use Rattle.std.specs.Prelude.{Ok, Err, Some, None, Result, Option}
 use Prim.Native.Nat.{ℕ, suc, min, ◌+◌, ◌≤◌, ◌<◌}
 use mathlib.Core.Path.{◌≡◌, refl, sym, ap, ◌∙◌}
 use mathlib.Core.Bool.{Bool, true, false}
@@ -6,28 +7,25 @@ use mathlib.Core.List.{List, [], ◌∷◌, ◌++◌, append-nil}
 use native.Mathlib.Omega.{arith}
 use lib.ListN.{length}
 use Rattle.rules.specs.declared.samples.Sample.{Sample}
-use Rattle.rules.specs.Answers.{Answer, accepted, refused, refusal_of, judged, ◌>>=◌, ◌>>◌}
+use Rattle.rules.specs.Answers.{Answer, accepted, refused, refusal_of, judged, ◌>>=◌, ◌>>◌, result_of}
 use Rattle.rules.specs.SampleFile.{sample_file}
 use Rattle.rules.specs.Sizing.{sample_check}
-use Rattle.sheet_stages.specs.declared.stage.Found.{Found}
 use Rattle.samples.specs.declared.check.Span.{Span}
 use Rattle.sheet_stages.specs.ToCome.{most_place, placed, RowsRead, file_rows, row_first, is_row}
 use Rattle.sample_rows.specs.declared.reader.SampleReader.{SampleReader}
 use Rattle.sample_rows.specs.declared.reader.Pulled.{Pulled}
-use Rattle.sample_rows.specs.declared.reader.Ending.{Ending}
 use Rattle.samples.specs.declared.check.SampleCheck.{SampleCheck}
-use Rattle.samples.specs.declared.check.Checked.{Checked}
 use Rattle.rules.specs.declared.answers.Refusal.{Refusal}
 use Rattle.sample_rows.specs.Streamed.{yet_to_come, PulledRight, ending_of}
-use Rattle.samples.specs.Streamed.{last_time, span_of, sheet_span, one_more, span_after, spanned, checked_with, checked_of}
+use Rattle.samples.specs.Streamed.{last_time, span_of, sheet_span, one_more, span_after, spanned, checked_with}
 use Rattle.sheet_stages.proofs.PlaceBound.{stays-bind, file-place}
 use Rattle.sample_rows.proofs.LineLaws.{file-answer}
 
 -- a row that was found is counted before those that follow it
-pub found-counted : (s : Span) (f : Found) (r : RowsRead) → spanned s (row_first f r) ≡ spanned (one_more s f) r
+pub found-counted : (s : Span) (f : Option Sample) (r : RowsRead) → spanned s (row_first f r) ≡ spanned (one_more s f) r
 unfolding span_after
-found-counted s (Found.Row x) r = refl
-found-counted s Found.Nothing r = refl
+found-counted s (Some x) r = refl
+found-counted s None r = refl
 
 -- one more, up to what 64 bits hold
 pub one_more_lem : (rows : ℕ) → rows < most_place → rows + 1 ≡ min (suc rows) most_place
@@ -83,18 +81,18 @@ span-judged s = go (sample_file s)
     go (refused number place) = refl
 
 module _ (c : SampleCheck) where
-  module _ (x : Sample) (e : Ending) where
-    pub last_row : ending_of e ≡ yet_to_come c.reader [] → e ≡ Ending.LastRow x → accepted (one_more c.span (Found.Row x)) ≡ checked_with c []
+  module _ (x : Sample) (e : Result (Option Sample) Refusal) where
+    pub last_row : ending_of e ≡ yet_to_come c.reader [] → e ≡ (Ok (Some x)) → accepted (one_more c.span (Some x)) ≡ checked_with c []
     unfolding checked_with span_after
-    last_row h is = ap (λ (e : Ending). spanned c.span (ending_of e)) (sym is) ∙ ap (spanned c.span) h
+    last_row h is = ap (λ (e : Result (Option Sample) Refusal). spanned c.span (ending_of e)) (sym is) ∙ ap (spanned c.span) h
 
-  pub no_row : (e : Ending) → ending_of e ≡ yet_to_come c.reader [] → e ≡ Ending.NoRow → accepted c.span ≡ checked_with c []
+  pub no_row : (e : Result (Option Sample) Refusal) → ending_of e ≡ yet_to_come c.reader [] → e ≡ Ok None → accepted c.span ≡ checked_with c []
   unfolding checked_with span_after
-  no_row e h is = ap (λ (e : Ending). spanned c.span (ending_of e)) (sym is) ∙ ap (spanned c.span) h
+  no_row e h is = ap (λ (e : Result (Option Sample) Refusal). spanned c.span (ending_of e)) (sym is) ∙ ap (spanned c.span) h
 
-  pub refused_end : (r : Refusal) (e : Ending) → ending_of e ≡ yet_to_come c.reader [] → e ≡ Ending.Refused r → refusal_of r ≡ checked_with c []
+  pub refused_end : (r : Refusal) (e : Result (Option Sample) Refusal) → ending_of e ≡ yet_to_come c.reader [] → e ≡ Err r → refusal_of r ≡ checked_with c []
   unfolding checked_with
-  refused_end r e h is = ap (λ (e : Ending). spanned c.span (ending_of e)) (sym is) ∙ ap (spanned c.span) h
+  refused_end r e h is = ap (λ (e : Result (Option Sample) Refusal). spanned c.span (ending_of e)) (sym is) ∙ ap (spanned c.span) h
 
 -- a pull goes ahead, with a row or with the whole chunk
 pub pull-ahead : (m : SampleReader) (chunk : List ℕ) (at : ℕ) (p : Pulled) → PulledRight m chunk at p → at < length chunk → at < p.next
@@ -106,7 +104,7 @@ pull-ahead m chunk at p right h = go (is_row p.found) refl
 
 -- a file that is there as a whole is one chunk
 pub whole-file : (file : List ℕ) (first last : SampleCheck) → ((rest : List ℕ) → checked_with first rest ≡ placed (sheet_span rest)) → ((rest : List ℕ) → checked_with first (file ++ rest) ≡ checked_with last rest)
-    → length file ≤ most_place → (v : Checked) → checked_of v ≡ checked_with last [] → checked_of v ≡ sheet_span file
+    → length file ≤ most_place → (v : Result Span Refusal) → result_of v ≡ checked_with last [] → result_of v ≡ sheet_span file
 whole-file file first last begun fed h v e =
     let w : file ++ [] ≡ file = append-nil file in
     e ∙ sym (fed []) ∙ begun (file ++ []) ∙ ap (λ (s : List ℕ). placed (sheet_span s)) w ∙ span-place file h

@@ -1,6 +1,7 @@
 -- THE THEOREMS of the sample file in chunks, of the functions themselves: of every list of chunks, the check that is begun, fed and
 -- finished answers what document 01 answers on the chunks joined, and the rows that are pulled are document 01's rows.
 -- All that is known of a call is what the function's own contract ensures. Assumes nothing.
+use Rattle.std.specs.Prelude.{Result, Option}
 use Prim.Native.Nat.{ℕ, ◌≤◌}
 use mathlib.Core.Path.{◌≡◌, sym, ap, ◌∙◌}
 use mathlib.Core.Bool.{true}
@@ -10,17 +11,15 @@ use borrow.Fn.Kinds as kinds
 use contract.Lifetimes.{Lfts}
 use denote.Triple.Clauses as clauses
 use Rattle.rules.specs.declared.samples.Sample.{Sample}
-use Rattle.rules.specs.Answers.{judged}
+use Rattle.rules.specs.Answers.{judged, result_of}
 use Rattle.rules.specs.SampleFile.{sample_file}
 use Rattle.rules.specs.Sizing.{sample_check}
 use Rattle.sample_rows.specs.declared.reader.SampleReader.{SampleReader}
 use Rattle.sample_rows.specs.declared.reader.Pulled.{Pulled}
-use Rattle.sample_rows.specs.declared.reader.Ending.{Ending}
 use Rattle.samples.specs.declared.check.SampleCheck.{SampleCheck}
-use Rattle.samples.specs.declared.check.Checked.{Checked}
 use Rattle.sheet_stages.specs.ToCome.{most_place, placed, file_rows, answer_of, is_refused}
 use Rattle.sample_rows.specs.Streamed.{yet_to_come, PulledRight, ending_of}
-use Rattle.samples.specs.Streamed.{sheet_span, checked_with, checked_of}
+use Rattle.samples.specs.Streamed.{sheet_span, checked_with}
 use Rattle.rules.specs.Chunks.{joined, Feeds}
 use Rattle.samples.specs.Chunks.{Pulls, left_at, rows_then}
 use Rattle.sheet_stages.proofs.PlaceBound.{file-place}
@@ -41,6 +40,8 @@ use Rattle.sample_rows.proofs.reader.pull.Reads as pull-reads
 use Rattle.sample_rows.proofs.reader.pull.Kinds as pull-kinds
 use Rattle.sample_rows.proofs.reader.end.Reads as end_reads
 use Rattle.sample_rows.proofs.reader.end.Kinds as end-kinds
+use Rattle.rules.specs.declared.answers.Refusal.{Refusal}
+use Rattle.samples.specs.declared.check.Span.{Span}
 
 -- ---- calls of which only what their contracts ensure is known
 
@@ -60,7 +61,7 @@ pub record Fed (c : SampleCheck) (chunk : List ℕ) (d : SampleCheck) : Type 0 w
   pub returned : feed-reads.Post κs args d exit
 
 -- `finish` was handed c, and answered v
-pub record Finished (c : SampleCheck) (v : Checked) : Type 0 where
+pub record Finished (c : SampleCheck) (v : Result Span Refusal) : Type 0 where
   pub κs : Lfts 0
   pub args : kinds.Dens κs finish-kinds.ps
   pub exit : clauses.AtExit (kinds.ended_of 0 finish-kinds.ps finish-kinds.r) κs
@@ -91,7 +92,7 @@ pub record PulledBy (m : SampleReader) (chunk : List ℕ) (at : ℕ) (p : Pulled
   pub returned : pull-reads.Post κs args p exit
 
 -- `end` was handed m, and gave e
-pub record Ended (m : SampleReader) (e : Ending) : Type 0 where
+pub record Ended (m : SampleReader) (e : Result (Option Sample) Refusal) : Type 0 where
   pub κs : Lfts 0
   pub args : kinds.Dens κs end-kinds.ps
   pub exit : clauses.AtExit (kinds.ended_of 0 end-kinds.ps end-kinds.r) κs
@@ -127,36 +128,36 @@ begun-and-fed chunks first last rest b f =
     let q : (rest : List ℕ) → checked_with first rest ≡ placed (sheet_span rest) = b.returned in
     sym (feeds-right (feeds-owe f) rest) ∙ q (joined chunks ++ rest)
 
-finished : (last : SampleCheck) (v : Checked) → Finished last v → checked_of v ≡ checked_with last []
+finished : (last : SampleCheck) (v : Result Span Refusal) → Finished last v → result_of v ≡ checked_with last []
 finished last v e =
-    let p : checked_of v ≡ checked_with e.args.0 [] = e.returned in
+    let p : result_of v ≡ checked_with e.args.0 [] = e.returned in
     p ∙ ap (λ (c : SampleCheck). checked_with c []) e.passed
 
-pub check-of-chunks : (chunks : List (List ℕ)) (first last : SampleCheck) (v : Checked) → Begun first → Feeds Fed first chunks last → Finished last v
-    → checked_of v ≡ placed (sheet_span (joined chunks))
+pub check-of-chunks : (chunks : List (List ℕ)) (first last : SampleCheck) (v : Result Span Refusal) → Begun first → Feeds Fed first chunks last → Finished last v
+    → result_of v ≡ placed (sheet_span (joined chunks))
 check-of-chunks chunks first last v b f e =
     finished last v e ∙ begun-and-fed chunks first last [] b f ∙ ap (λ (s : List ℕ). placed (sheet_span s)) (append-nil (joined chunks))
 
 -- a check that stops at a refused line answers what document 01 answers on the whole file, whatever the rest of it is
-pub check-cut-short : (chunks : List (List ℕ)) (rest : List ℕ) (first last : SampleCheck) (v : Checked) → Begun first → Feeds Fed first chunks last → ToldRefused last → Finished last v
-    → checked_of v ≡ placed (sheet_span (joined chunks ++ rest))
+pub check-cut-short : (chunks : List (List ℕ)) (rest : List ℕ) (first last : SampleCheck) (v : Result Span Refusal) → Begun first → Feeds Fed first chunks last → ToldRefused last → Finished last v
+    → result_of v ≡ placed (sheet_span (joined chunks ++ rest))
 check-cut-short chunks rest first last v b f t e =
     let r : true ≡ is_refused t.args.0.reader.stage = t.returned in
     let k : is_refused last.reader.stage ≡ true = ap (λ (c : SampleCheck). is_refused c.reader.stage) (sym t.passed) ∙ sym r in
     finished last v e ∙ refused-for-good last rest k ∙ begun-and-fed chunks first last rest b f
 
 -- of a file of less than 2^64 bytes: its rows and span, or document 01's refusal and its place
-pub check-streamed : (chunks : List (List ℕ)) (first last : SampleCheck) (v : Checked) → length (joined chunks) ≤ most_place
+pub check-streamed : (chunks : List (List ℕ)) (first last : SampleCheck) (v : Result Span Refusal) → length (joined chunks) ≤ most_place
     → Begun first → Feeds Fed first chunks last → Finished last v
-    → (checked_of v ≡ sheet_span (joined chunks)) × (judged (checked_of v) ≡ sample_check (joined chunks))
+    → (result_of v ≡ sheet_span (joined chunks)) × (judged (result_of v) ≡ sample_check (joined chunks))
 check-streamed chunks first last v h b f e =
-    let p : checked_of v ≡ sheet_span (joined chunks) = check-of-chunks chunks first last v b f e ∙ span-place (joined chunks) h in
+    let p : result_of v ≡ sheet_span (joined chunks) = check-of-chunks chunks first last v b f e ∙ span-place (joined chunks) h in
     (p, ap judged p ∙ span-judged (joined chunks))
 
 -- ---- THE ROWS, over every list of chunks: those pulled, and the last line's where it has no LF; of a refused file those of the lines
 -- before the refused one, beside the refusal
 
-pub rows-of-chunks : (chunks : List (List ℕ)) (first last : SampleReader) (rows : List Sample) (e : Ending) → Opened first → Pulls PulledBy first 0 chunks rows last → Ended last e
+pub rows-of-chunks : (chunks : List (List ℕ)) (first last : SampleReader) (rows : List Sample) (e : Result (Option Sample) Refusal) → Opened first → Pulls PulledBy first 0 chunks rows last → Ended last e
     → rows_then rows (ending_of e) ≡ file_rows (joined chunks)
 rows-of-chunks chunks first last rows e o p z =
     let q : ending_of e ≡ yet_to_come z.args.0 [] = z.returned in
@@ -164,7 +165,7 @@ rows-of-chunks chunks first last rows e o p z =
     ap (rows_then rows) (q ∙ ap (λ (m : SampleReader). yet_to_come m []) z.passed) ∙ sym (pulls-right (pulls-owe p)) ∙ r (left_at 0 chunks) ∙ ap file_rows (sym (left-next chunks))
 
 -- of a file of less than 2^64 bytes: document 01's rows, or its refusal and its place
-pub rows-streamed : (chunks : List (List ℕ)) (first last : SampleReader) (rows : List Sample) (e : Ending) → length (joined chunks) ≤ most_place
+pub rows-streamed : (chunks : List (List ℕ)) (first last : SampleReader) (rows : List Sample) (e : Result (Option Sample) Refusal) → length (joined chunks) ≤ most_place
     → Opened first → Pulls PulledBy first 0 chunks rows last → Ended last e
     → answer_of (rows_then rows (ending_of e)) ≡ sample_file (joined chunks)
 rows-streamed chunks first last rows e h o p z = ap answer_of (rows-of-chunks chunks first last rows e o p z) ∙ file-answer (joined chunks) ∙ file-place (joined chunks) h

@@ -1,4 +1,5 @@
 -- Usual rows, each later than the last, are counted one after the other. Assumes nothing.
+use Rattle.std.specs.Prelude.{Some}
 use Prim.Native.Nat.{ℕ, suc, min}
 use mathlib.Core.Path.{refl, ap, ◌∙◌}
 use mathlib.Core.List.{List, [], ◌++◌}
@@ -7,7 +8,6 @@ use lib.ListN.{drop}
 use Rattle.rules.specs.declared.samples.Sample.{Sample}
 use Rattle.sheet_headings.specs.declared.headings.Columns.{Columns}
 use Rattle.sheet_stages.specs.declared.stage.Stage.{Stage}
-use Rattle.sheet_stages.specs.declared.stage.Found.{Found}
 use Rattle.samples.specs.declared.check.Span.{Span}
 use Rattle.sheet_stages.specs.ToCome.{most_place, to_come}
 use Rattle.usual_rows.specs.Usual.{UsualLater}
@@ -30,7 +30,7 @@ row-counted stage span₀ chunk at columns last lines rows time next g x after u
     record {
       rows = λ rest. g.rows rest
           ∙ ap (spanned span) (usual-on columns last lines chunk next x after u rest)
-          ∙ found-counted span (Found.Row x) (to_come (Stage.LaterRows columns x.at (min (suc lines) most_place)) (lines_after [] (drop after chunk ++ rest)));
+          ∙ found-counted span (Some x) (to_come (Stage.LaterRows columns x.at (min (suc lines) most_place)) (lines_after [] (drop after chunk ++ rest)));
       onward = omega (arith, g.onward, u.right.onward);
       within = λ h. u.right.within;
     }

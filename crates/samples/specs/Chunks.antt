@@ -1,8 +1,7 @@
 -- Rows pulled out of any list of chunks, empty ones included: the calls one after the other, of which only what `One` says is
 -- known. `proofs/Chunks.antt` has the theorems, and there `One` is what the function's own contract ensures.
-use Rattle.std.specs.Prelude.{ℕ, ◌≡◌, List, [], ◌∷◌, ◌++◌, drop}
+use Rattle.std.specs.Prelude.{ℕ, ◌≡◌, List, [], ◌∷◌, ◌++◌, drop, Some, None}
 use Rattle.rules.specs.declared.samples.Sample.{Sample}
-use Rattle.sheet_stages.specs.declared.stage.Found.{Found}
 use Rattle.sample_rows.specs.declared.reader.SampleReader.{SampleReader}
 use Rattle.sample_rows.specs.declared.reader.Pulled.{Pulled}
 use Rattle.rules.specs.Chunks.{joined}
@@ -12,9 +11,9 @@ use Rattle.sheet_stages.specs.ToCome.{RowsRead}
 pub data Pulls (One : SampleReader → List ℕ → ℕ → Pulled → Type 0) : SampleReader → ℕ → List (List ℕ) → List Sample → SampleReader → Type 0 where
   none : {m : SampleReader} {at : ℕ} → Pulls One m at [] [] m
   row : {m last : SampleReader} {at : ℕ} {chunk : List ℕ} {chunks : List (List ℕ)} {rows : List Sample} (p : Pulled) (x : Sample)
-      → One m chunk at p → p.found ≡ Found.Row x → Pulls One p.reader p.next (chunk ∷ chunks) rows last → Pulls One m at (chunk ∷ chunks) (x ∷ rows) last
+      → One m chunk at p → p.found ≡ Some x → Pulls One p.reader p.next (chunk ∷ chunks) rows last → Pulls One m at (chunk ∷ chunks) (x ∷ rows) last
   next : {m last : SampleReader} {at : ℕ} {chunk : List ℕ} {chunks : List (List ℕ)} {rows : List Sample} (p : Pulled)
-      → One m chunk at p → p.found ≡ Found.Nothing → Pulls One p.reader 0 chunks rows last → Pulls One m at (chunk ∷ chunks) rows last
+      → One m chunk at p → p.found ≡ None → Pulls One p.reader 0 chunks rows last → Pulls One m at (chunk ∷ chunks) rows last
 
 -- what is left of the file from a place of the first chunk on
 abbrev pub left_at : ℕ → List (List ℕ) → List ℕ

@@ -1,17 +1,16 @@
 -- The sample file in chunks: what a check that holds the beginning of a file comes to with any rest of it.
 -- What a call owes is stated over every rest, so that calls chain: `proofs/Chunks.antt` has the theorem over lists of chunks.
-use Rattle.std.specs.Prelude.{ℕ, suc, min, ◌≤◌, ◌≡◌, List, [], ◌∷◌, ◌++◌, length, drop}
+use Rattle.std.specs.Prelude.{ℕ, suc, min, ◌≤◌, ◌≡◌, List, [], ◌∷◌, ◌++◌, length, drop, Ok, Err, Some, None, Result, Option}
 use Rattle.rules.specs.declared.samples.Sample.{Sample}
 use Rattle.rules.specs.Answers.{Answer, accepted, refusal_of, ◌>>=◌, ◌>>◌}
 use Rattle.rules.specs.SampleFile.{sample_file}
 use Rattle.sheet_stages.specs.declared.stage.Stage.{Stage}
-use Rattle.sheet_stages.specs.declared.stage.Found.{Found}
 use Rattle.samples.specs.declared.check.Span.{Span}
 use Rattle.samples.specs.declared.check.SampleCheck.{SampleCheck}
 use Rattle.samples.specs.declared.check.RowsCounted.{RowsCounted}
-use Rattle.samples.specs.declared.check.Checked.{Checked}
 use Rattle.sheet_stages.specs.ToCome.{most_place, RowsRead, to_come}
 use Rattle.sample_rows.specs.Streamed.{lines_after, yet_to_come}
+use Rattle.rules.specs.declared.answers.Refusal.{Refusal}
 
 -- the time of the last of these rows, and `at` where there is none
 unfoldable pub last_time : ℕ → List Sample → ℕ
@@ -28,14 +27,14 @@ sheet_span s = do
   rows ← sample_file s
   accepted (span_of rows)
 
-abbrev pub one_more : Span → Found → Span
-one_more s (Found.Row x) = record { rows = min (suc s.rows) most_place; last = x.at }
-one_more s Found.Nothing = s
+abbrev pub one_more : Span → Option Sample → Span
+one_more s (Some x) = record { rows = min (suc s.rows) most_place; last = x.at }
+one_more s None = s
 
 -- with rows after those that were counted
 unfoldable pub span_after : Span → List Sample → Span
 span_after s [] = s
-span_after s (x ∷ rows) = span_after (one_more s (Found.Row x)) rows
+span_after s (x ∷ rows) = span_after (one_more s (Some x)) rows
 
 abbrev pub spanned : Span → RowsRead → Answer Span
 spanned s r = r.verdict >> accepted (span_after s r.rows)
@@ -49,7 +48,3 @@ pub record CountedOn (stage : Stage) (begun : List ℕ) (span : Span) (chunk : L
   pub rows : (rest : List ℕ) → spanned span (to_come stage (lines_after begun (drop at chunk ++ rest))) ≡ spanned r.span (to_come r.stage (lines_after begun (drop r.next chunk ++ rest)))
   pub onward : at ≤ r.next
   pub within : at ≤ length chunk → r.next ≤ length chunk
-
-abbrev pub checked_of : Checked → Answer Span
-checked_of (Checked.Accepted s) = accepted s
-checked_of (Checked.Refused r) = refusal_of r

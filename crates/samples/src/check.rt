@@ -1,12 +1,14 @@
 // The check of a sample file that comes in chunks of any length: all its rows are pulled, and counted.
 ghost use Rattle.std.specs.Prelude.{◌≡◌, ℕ, List, [], ◌++◌, take};
+ghost use Rattle.rules.specs.Answers.{result_of};
 ghost use Rattle.sheet_stages.specs.ToCome.{placed, is_refused};
-ghost use Rattle.samples.specs.Streamed.{one_more, CountedOn, sheet_span, checked_with, checked_of};
+ghost use Rattle.samples.specs.Streamed.{one_more, CountedOn, sheet_span, checked_with};
 
+use rules::samples::Sample;
 use rules::answers::Refusal;
-use sample_rows::reader::{Ending, SampleReader, end, kept, next_row, reader};
+use sample_rows::reader::{SampleReader, end, kept, next_row, reader};
 use sheet_headings::headings::Columns;
-use sheet_stages::stage::{Found, Stage, line_refused, next_line};
+use sheet_stages::stage::{Stage, line_refused, next_line};
 use usual_rows::usual::{Usual, usual_later};
 
 // How many rows were accepted, and the time of the last.
@@ -22,18 +24,12 @@ pub struct SampleCheck {
     pub(crate) span: Span,
 }
 
-#[derive(Clone, Copy)]
-pub enum Checked {
-    Accepted(Span),
-    Refused(Refusal),
-}
-
-fn counted(span: Span, found: Found) -> Span
+fn counted(span: Span, found: Option<Sample>) -> Span
     ensures { result ≡ one_more span found }
 {
     match found {
-        Found::Nothing => span,
-        Found::Row(row) => {
+        None => span,
+        Some(row) => {
             let rows = span.rows;
             let last = row.at;
             if rows < u64::MAX {
@@ -142,7 +138,7 @@ pub fn feed(check: SampleCheck, chunk: &[u8]) -> SampleCheck
         stage = row.stage;
         len = row.len;
         at = row.next;
-        let Found::Row(_) = found else {
+        let Some(_) = found else {
             let begun = SampleReader { line, len, stage };
             return SampleCheck {
                 reader: kept(begun, &chunk[at..]),
@@ -158,15 +154,15 @@ pub fn feed(check: SampleCheck, chunk: &[u8]) -> SampleCheck
 }
 
 // The end of the file.
-pub fn finish(check: SampleCheck) -> Checked
-    ensures { checked_of result ≡ checked_with check [] }
+pub fn finish(check: SampleCheck) -> Result<Span, Refusal>
+    ensures { result_of result ≡ checked_with check [] }
 {
     let reader = check.reader;
     let span = check.span;
     match end(reader) {
-        Ending::LastRow(row) => Checked::Accepted(counted(span, Found::Row(row))),
-        Ending::NoRow => Checked::Accepted(span),
-        Ending::Refused(refusal) => Checked::Refused(refusal),
+        Ok(Some(row)) => Ok(counted(span, Some(row))),
+        Ok(None) => Ok(span),
+        Err(refusal) => Err(refusal),
     }
 }
 
@@ -180,8 +176,8 @@ pub fn is_refused(check: SampleCheck) -> bool
 }
 
 // A file that is there as a whole.
-pub fn check_samples(file: &[u8]) -> Checked
-    ensures { checked_of result ≡ sheet_span file.now }
+pub fn check_samples(file: &[u8]) -> Result<Span, Refusal>
+    ensures { result_of result ≡ sheet_span file.now }
 {
     finish(feed(check(), file))
 }

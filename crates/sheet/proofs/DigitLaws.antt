@@ -1,4 +1,5 @@
 -- Laws of texts of digits: one digit more, how large their numbers are, and what an answer says of the text. Assumes nothing.
+use Rattle.std.specs.Prelude.{Some, None, Option}
 use Prim.Native.Nat.{ℕ, suc, ◌+◌, ◌-◌, ◌*◌, ◌^◌, ◌≤◌, ◌<◌}
 use mathlib.Core.Path.{◌≡◌, refl}
 use mathlib.Core.Bool.{Bool, true, false}
@@ -12,32 +13,31 @@ use borrow.Author.Tests.{le-leb, lt-leb}
 use Rattle.rules.specs.Numbers.{within}
 use Rattle.rules.specs.Bytes.{digit0, is_digit, all_digits, digits, value_from, value}
 use Rattle.rules.proofs.Tests.{both, within-fact, fact-within}
-use Rattle.sheet.specs.declared.numbers.Digits.{Digits}
 use Rattle.sheet.specs.Digits.{formed}
 
 -- ---- what an answer says
 
-pub formed-number : (form : Bool) (v w : ℕ) → Digits.Number w ≡ formed form v → (form ≡ true) × (w ≡ v)
+pub formed-number : (form : Bool) (v w : ℕ) → Some w ≡ formed form v → (form ≡ true) × (w ≡ v)
 formed-number true v w h = (refl, cc)
 formed-number false v w h = absurd (let z : ◌≡◌ {A = ℕ} 0 1 = cc in omega arith)
 
-pub formed-none : (form : Bool) (v : ℕ) → Digits.Malformed ≡ formed form v → form ≡ false
+pub formed-none : (form : Bool) (v : ℕ) → None ≡ formed form v → form ≡ false
 formed-none true v h = absurd (let z : ◌≡◌ {A = ℕ} 0 1 = cc in omega arith)
 formed-none false v h = refl
 
 -- ---- "1 to n digits", one after the other
 
 -- what a text comes to whose digits before s have the value v
-abbrev pub to_read : ℕ → List ℕ → Digits
+abbrev pub to_read : ℕ → List ℕ → Option ℕ
 to_read v s = formed (all_digits s) (value_from v s)
 
 module _ (most : ℕ) (s : List ℕ) where
-  pub read_short : length s < 1 → Digits.Malformed ≡ formed (digits most s) (value s)
+  pub read_short : length s < 1 → None ≡ formed (digits most s) (value s)
   unfolding digits
   read_short h = rw (lt-leb 1 (length s) h)
 
   module _ (some : 1 ≤ length s) where
-    pub read-long : most < length s → Digits.Malformed ≡ formed (digits most s) (value s)
+    pub read-long : most < length s → None ≡ formed (digits most s) (value s)
     unfolding digits
     read-long h = rw (le-leb 1 (length s) some, lt-leb (length s) most h)
 
@@ -46,17 +46,17 @@ module _ (most : ℕ) (s : List ℕ) where
     read_first h = rw (fact-within 1 most (length s) some h)
 
 module _ (s : List ℕ) (i v : ℕ) where
-  pub read-end : length s ≤ i → to_read v (drop i s) ≡ Digits.Number v
+  pub read-end : length s ≤ i → to_read v (drop i s) ≡ Some v
   unfolding all_digits value_from
   read-end h = rw (drop_of_length-le s h)
 
   module _ (h : i < length s) where
-    pub read_low : get_or s i 0 < 48 → to_read v (drop i s) ≡ Digits.Malformed
+    pub read_low : get_or s i 0 < 48 → to_read v (drop i s) ≡ None
     unfolding all_digits value_from
     read_low l = rw (drop-cons s i 0 h, lt-leb 48 (get_or s i 0) l)
 
     module _ (low : 48 ≤ get_or s i 0) where
-      pub read-high : 57 < get_or s i 0 → to_read v (drop i s) ≡ Digits.Malformed
+      pub read-high : 57 < get_or s i 0 → to_read v (drop i s) ≡ None
       unfolding all_digits value_from
       read-high k = rw (drop-cons s i 0 h, le-leb 48 (get_or s i 0) low, lt-leb (get_or s i 0) 57 k)
 
@@ -94,7 +94,7 @@ pub record Read (most : ℕ) (s : List ℕ) (v : ℕ) : Type 0 where
   pub is : v ≡ value s
   pub below : v < 10 ^ most
 
-pub read_is : (most : ℕ) (s : List ℕ) (v : ℕ) → Digits.Number v ≡ formed (digits most s) (value s) → Read most s v
+pub read_is : (most : ℕ) (s : List ℕ) (v : ℕ) → Some v ≡ formed (digits most s) (value s) → Read most s v
 read_is most s v h =
     let t = formed-number (digits most s) (value s) v h in
     record { form = t.0; is = t.1; below = rw t.1 (digits-below most s t.0) }

@@ -1,5 +1,5 @@
 -- Laws of a power's cell: its form and its value from what stands before the first point and what stands after it. Assumes nothing.
-use Rattle.std.specs.Prelude.{if◌then◌else◌}
+use Rattle.std.specs.Prelude.{if◌then◌else◌, None, Option}
 use Prim.Native.Nat.{ℕ, suc, ◌+◌, ◌-◌, ◌*◌, ◌^◌, ◌<◌}
 use mathlib.Core.Path.{◌≡◌, refl, sym, ◌∙◌}
 use mathlib.Core.Bool.{Bool, true, false, ◌&&◌}
@@ -16,7 +16,6 @@ use Rattle.byte_search.specs.Bytes.{index_after, index_of, slice}
 use Rattle.rules.specs.Numbers.{within}
 use Rattle.rules.specs.Bytes.{point, is_digit, all_digits, digits, value_from, value, in_front, parts}
 use Rattle.rules.specs.SampleFile.{power_form, power_value}
-use Rattle.sheet.specs.declared.numbers.Digits.{Digits}
 use Rattle.sheet.specs.Digits.{formed}
 use Rattle.sheet_headings.proofs.PartsAt.{index-le, part-last, part-first}
 
@@ -51,11 +50,11 @@ points-formless w f (x ∷ s) = go (eqb x point) (parts point s)
     go false (p ∷ ps) = refl
 
 -- what the parts between the points come to
-abbrev pub watts : List (List ℕ) → Digits
+abbrev pub watts : List (List ℕ) → Option ℕ
 watts ps = formed (power_form ps) (power_value ps)
 
 -- what the whole kW and what follows the first point come to
-abbrev pub decimal_watts : List ℕ → List ℕ → Digits
+abbrev pub decimal_watts : List ℕ → List ℕ → Option ℕ
 decimal_watts w d = formed (digits 6 w && digits 3 d) (value w * 1000 + value d * 10 ^ (3 - length d))
 
 watts-decimals : (w d : List ℕ) → watts (w ∷ parts point d) ≡ decimal_watts w d
@@ -81,9 +80,9 @@ module _ (s : List ℕ) (end : ℕ) (at : end ≡ index_of point s) where
       let rest = take_all (length s - suc end) (drop (suc end) s) (omega (arith, length-drop (suc end) s)) in
       rw (add-one, rest, part-first point s (rw at at h), ← at) (watts-decimals (take end s) (drop (suc end) s))
 
-  pub power-none : digits 6 (take end s) ≡ false → watts (parts point s) ≡ Digits.Malformed
+  pub power-none : digits 6 (take end s) ≡ false → watts (parts point s) ≡ None
   power-none h = go (dec_lt end (length s))
     where
-      go : Dec (end < length s) → watts (parts point s) ≡ Digits.Malformed
+      go : Dec (end < length s) → watts (parts point s) ≡ None
       go (yes k) = power-decimals k ∙ rw h
       go (no k) = power-whole (omega (arith, k, at, index-le point s)) ∙ rw h

@@ -1,4 +1,5 @@
 -- The cells of a row, left to right, and the values under their headings. Assumes nothing.
+use Rattle.std.specs.Prelude.{Ok, Err, Result}
 use Prim.Native.Nat.{ℕ, suc, ◌≤◌, ◌<◌}
 use mathlib.Core.Path.{◌≡◌, refl, ap, subst, ◌∙◌}
 use mathlib.Core.List.{List, [], ◌∷◌}
@@ -9,11 +10,10 @@ use Rattle.rules.specs.Numbers.{tab}
 use Rattle.rules.specs.Answers.{Answer, accepted, refused, refusal_of, ◌>>=◌}
 use Rattle.rules.specs.SampleFile.{sample_sheet, cell, cell_values, value_under}
 use Rattle.sheet_headings.specs.declared.headings.Columns.{Columns}
-use Rattle.sheet.specs.declared.numbers.CellValue.{CellValue}
-use Rattle.sheet.specs.declared.numbers.CellValue.TheVariants.{Value, Malformed, OverLimit}
 use Rattle.sheet_headings.specs.Headings.{columns_of}
 use Rattle.sheet.specs.Cells.{cell_of}
 use Rattle.sheet.specs.Rows.{cell_refusal, power_columns, sample_under, row_of_values, row_of_cells}
+use Rattle.sheet.specs.declared.numbers.CellFault.{CellFault}
 
 -- ---- the value of the first column after the time's that has a name
 
@@ -76,10 +76,10 @@ module _ (c : Columns) (line : ℕ) (vs : List ℕ) (r : Sample) (is : r ≡ sam
 -- ---- 18 and 19, of the cells
 
 -- a cell that has no value refuses the row, whatever follows it
-pub no_value : (line : ℕ) (v : CellValue) {A : Type 0} (f : ℕ → Answer A) → ((x : ℕ) → v ≡ Value x → ⊥) → refusal_of (cell_refusal line v) ≡ (cell_of line v >>= f)
-no_value line (Value v) f k = absurd (k v refl)
-no_value line Malformed f k = refl
-no_value line OverLimit f k = refl
+pub no_value : (line : ℕ) (v : Result ℕ CellFault) {A : Type 0} (f : ℕ → Answer A) → ((x : ℕ) → v ≡ Ok x → ⊥) → refusal_of (cell_refusal line v) ≡ (cell_of line v >>= f)
+no_value line (Ok v) f k = absurd (k v refl)
+no_value line (Err CellFault.Malformed) f k = refl
+no_value line (Err CellFault.OverLimit) f k = refl
 
 -- values put in front of values, or the first refusal
 flat : (w x y z : Answer ℕ) (f : List ℕ → Answer Sample)
@@ -104,26 +104,26 @@ module _ (c : Columns) (line : ℕ) (first second third fourth : List ℕ) where
   unfolding row_of_cells cell_values
   one_by_one = flat (cell line limits 0 first) (cell line limits c.second second) (cell line limits c.third third) (cell line limits c.fourth fourth) (row_of_values c line)
 
-  abbrev NoValue : CellValue → Type 0
-  NoValue v = (x : ℕ) → v ≡ Value x → ⊥
+  abbrev NoValue : Result ℕ CellFault → Type 0
+  NoValue v = (x : ℕ) → v ≡ Ok x → ⊥
 
-  abbrev Read : CellValue → ℕ → List ℕ → Type 0
+  abbrev Read : Result ℕ CellFault → ℕ → List ℕ → Type 0
   Read v name part = (line : ℕ) → cell_of line v ≡ cell line limits name part
 
-  pub wrong_first : (v : CellValue) → Read v 0 first → NoValue v → refusal_of (cell_refusal line v) ≡ whole
+  pub wrong_first : (v : Result ℕ CellFault) → Read v 0 first → NoValue v → refusal_of (cell_refusal line v) ≡ whole
   wrong_first v r k = rw (one_by_one, ← r line) (no_value line v _ k)
 
-  module _ (u : CellValue) (a : ℕ) (first-is : Read u 0 first) (a-is : u ≡ Value a) where
-    pub wrong_second : (v : CellValue) → Read v c.second second → NoValue v → refusal_of (cell_refusal line v) ≡ whole
+  module _ (u : Result ℕ CellFault) (a : ℕ) (first-is : Read u 0 first) (a-is : u ≡ Ok a) where
+    pub wrong_second : (v : Result ℕ CellFault) → Read v c.second second → NoValue v → refusal_of (cell_refusal line v) ≡ whole
     wrong_second v r k = rw (one_by_one, ← first-is line, a-is, ← r line) (no_value line v _ k)
 
-    module _ (w : CellValue) (x : ℕ) (second_is : Read w c.second second) (x-is : w ≡ Value x) where
-      pub wrong-third : (v : CellValue) → Read v c.third third → NoValue v → refusal_of (cell_refusal line v) ≡ whole
+    module _ (w : Result ℕ CellFault) (x : ℕ) (second_is : Read w c.second second) (x-is : w ≡ Ok x) where
+      pub wrong-third : (v : Result ℕ CellFault) → Read v c.third third → NoValue v → refusal_of (cell_refusal line v) ≡ whole
       wrong-third v r k = rw (one_by_one, ← first-is line, a-is, ← second_is line, x-is, ← r line) (no_value line v _ k)
 
-      module _ (q : CellValue) (y : ℕ) (third-is : Read q c.third third) (y-is : q ≡ Value y) where
-        pub wrong-fourth : (v : CellValue) → Read v c.fourth fourth → NoValue v → refusal_of (cell_refusal line v) ≡ whole
+      module _ (q : Result ℕ CellFault) (y : ℕ) (third-is : Read q c.third third) (y-is : q ≡ Ok y) where
+        pub wrong-fourth : (v : Result ℕ CellFault) → Read v c.fourth fourth → NoValue v → refusal_of (cell_refusal line v) ≡ whole
         wrong-fourth v r k = rw (one_by_one, ← first-is line, a-is, ← second_is line, x-is, ← third-is line, y-is, ← r line) (no_value line v _ k)
 
-        pub all-four : (v : CellValue) (z : ℕ) → Read v c.fourth fourth → v ≡ Value z → row_of_values c line (a ∷ x ∷ y ∷ z ∷ []) ≡ whole
+        pub all-four : (v : Result ℕ CellFault) (z : ℕ) → Read v c.fourth fourth → v ≡ Ok z → row_of_values c line (a ∷ x ∷ y ∷ z ∷ []) ≡ whole
         all-four v z r z-is = rw (one_by_one, ← first-is line, a-is, ← second_is line, x-is, ← third-is line, y-is, ← r line, z-is)

@@ -8,46 +8,38 @@ ghost use Rattle.sheet.specs.Digits.{formed};
 use rules::limits::{MOST_DECIMALS, MOST_KW_DIGITS, MOST_POWER, MOST_TIME, MOST_TIME_DIGITS};
 use words::arithmetic::byte_u32;
 
-// What a cell comes to. `specs/Cells.antt` gives document 01's number for each case.
+// Why a cell has no value. `specs/Cells.antt` gives document 01's number for each case.
 #[derive(Clone, Copy)]
-pub enum CellValue {
-    Value(u32),
+pub enum CellFault {
     Malformed,
     OverLimit,
 }
 
-// What a text comes to as a number, before its limit is asked. `specs/Digits.antt` says when there is one.
-#[derive(Clone, Copy)]
-enum Digits {
-    Number(u32),
-    Malformed,
-}
-
 // "1 to 9 digits", "1 to 6 digits", "1 to 3 digits": the one reader of digits. The length is asked first, so that no sum wraps.
-fn digits_of(part: &[u8], most: usize) -> Digits
+fn digits_of(part: &[u8], most: usize) -> Option<u32>
     requires { most ≤ 9 }
     ensures { result ≡ formed (digits most part.now) (value part.now) }
 {
     if part.len() < 1 {
-        return Digits::Malformed;
+        return None;
     }
     if most < part.len() {
-        return Digits::Malformed;
+        return None;
     }
     let mut number: u32 = 0;
     let mut i = 0;
     while i < part.len() {
         let byte = part[i];
         if byte < b'0' {
-            return Digits::Malformed;
+            return None;
         }
         if b'9' < byte {
-            return Digits::Malformed;
+            return None;
         }
         number = number * 10 + byte_u32(byte - b'0');
         i += 1;
     }
-    Digits::Number(number)
+    Some(number)
 }
 
 // What the last of so many decimals of a kW is worth, in W.
@@ -63,52 +55,52 @@ pub fn last_worth(decimals: usize) -> u32
 }
 
 // A power in W, before its limit is asked. What follows the first point has no other point, since a point is no digit.
-fn watts_of(cell: &[u8]) -> Digits
+fn watts_of(cell: &[u8]) -> Option<u32>
     ensures { result ≡ formed (power_form (parts point cell.now)) (power_value (parts point cell.now)) }
 {
     let point = byte_search::find(cell, 0, cell.len(), b'.');
-    let Digits::Number(whole) = digits_of(&cell[..point], MOST_KW_DIGITS) else {
-        return Digits::Malformed;
+    let Some(whole) = digits_of(&cell[..point], MOST_KW_DIGITS) else {
+        return None;
     };
     if point == cell.len() {
-        return Digits::Number(whole * 1000);
+        return Some(whole * 1000);
     }
     let decimals = &cell[point + 1..];
-    let Digits::Number(fraction) = digits_of(decimals, MOST_DECIMALS) else {
-        return Digits::Malformed;
+    let Some(fraction) = digits_of(decimals, MOST_DECIMALS) else {
+        return None;
     };
-    Digits::Number(whole * 1000 + fraction * last_worth(decimals.len()))
+    Some(whole * 1000 + fraction * last_worth(decimals.len()))
 }
 
 // "18 before 19": the form is judged before the limit.
-fn limited(limit: u32, number: Digits) -> CellValue
+fn limited(limit: u32, number: Option<u32>) -> Result<u32, CellFault>
     ensures { (line : ℕ) (form : Bool) (v : ℕ) → number ≡ formed form v → cell_of line result ≡ limited line limit form v }
 {
-    let Digits::Number(value) = number else {
-        return CellValue::Malformed;
+    let Some(value) = number else {
+        return Err(CellFault::Malformed);
     };
     if limit < value {
-        return CellValue::OverLimit;
+        return Err(CellFault::OverLimit);
     }
-    CellValue::Value(value)
+    Ok(value)
 }
 
 // A time in seconds, up to a limit.
-pub fn time(limit: u32, cell: &[u8]) -> CellValue
+pub fn time(limit: u32, cell: &[u8]) -> Result<u32, CellFault>
     ensures { (line : ℕ) → cell_of line result ≡ time_cell line limit cell.now }
 {
     limited(limit, digits_of(cell, MOST_TIME_DIGITS))
 }
 
 // A power in W, up to a limit.
-pub fn power(limit: u32, cell: &[u8]) -> CellValue
+pub fn power(limit: u32, cell: &[u8]) -> Result<u32, CellFault>
     ensures { (line : ℕ) → cell_of line result ≡ power_cell line limit cell.now }
 {
     limited(limit, watts_of(cell))
 }
 
 // A cell under the heading whose name has this place.
-pub fn cell_under(name: u8, part: &[u8]) -> CellValue
+pub fn cell_under(name: u8, part: &[u8]) -> Result<u32, CellFault>
     ensures { (line : ℕ) → cell_of line result ≡ cell line sample_sheet.limits name part.now }
 {
     if name == 0 {

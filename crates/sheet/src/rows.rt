@@ -1,20 +1,15 @@
 // A row: "11, 17, cells left to right 18 before 19, then 20".
 ghost use Rattle.std.specs.Prelude.{◌≡◌, [], ◌∷◌};
+ghost use Rattle.rules.specs.Answers.{result_of};
 ghost use Rattle.rules.specs.SampleFile.{value_under};
-ghost use Rattle.sheet.specs.Rows.{row_of, row_in, row_of_cells, row_of_values, power_columns, cell_refusal};
+ghost use Rattle.sheet.specs.Rows.{row_in, row_of_cells, row_of_values, power_columns, cell_refusal};
 
-use crate::numbers::{CellValue, cell_under};
+use crate::numbers::{CellFault, cell_under};
 use rules::answers::Refusal;
 use rules::limits::MOST_LINE;
 use rules::samples::Sample;
 use sheet_headings::cells::cell_at;
 use sheet_headings::headings::Columns;
-
-#[derive(Clone, Copy)]
-pub enum RowRead {
-    Values(Sample),
-    Refused(Refusal),
-}
 
 // The values of the columns after the time's, in the file's order.
 #[derive(Clone, Copy)]
@@ -25,13 +20,13 @@ pub struct Powers {
 }
 
 // The refusal of a cell that has no value.
-fn refusal_of(line: u64, cell: CellValue) -> Refusal
+fn refusal_of(line: u64, cell: Result<u32, CellFault>) -> Refusal
     ensures { result ≡ cell_refusal line cell }
 {
     match cell {
-        CellValue::Value(_) => Refusal::Malformed(line),
-        CellValue::Malformed => Refusal::Malformed(line),
-        CellValue::OverLimit => Refusal::OverLimit(line),
+        Ok(_) => Refusal::Malformed(line),
+        Err(CellFault::Malformed) => Refusal::Malformed(line),
+        Err(CellFault::OverLimit) => Refusal::OverLimit(line),
     }
 }
 
@@ -52,8 +47,8 @@ pub fn value_under(name: u8, columns: Columns, powers: Powers) -> u32
 }
 
 // 20: "sheddable load above load".
-fn agreeing(line: u64, columns: Columns, at: u32, powers: Powers) -> RowRead
-    ensures { row_of result ≡ row_of_values columns line (at ∷ powers.second ∷ powers.third ∷ powers.fourth ∷ []) }
+fn agreeing(line: u64, columns: Columns, at: u32, powers: Powers) -> Result<Sample, Refusal>
+    ensures { result_of result ≡ row_of_values columns line (at ∷ powers.second ∷ powers.third ∷ powers.fourth ∷ []) }
 {
     let sample = Sample {
         at,
@@ -62,9 +57,9 @@ fn agreeing(line: u64, columns: Columns, at: u32, powers: Powers) -> RowRead
         sheddable: value_under(3, columns, powers),
     };
     if sample.load < sample.sheddable {
-        return RowRead::Refused(Refusal::SheddableAboveLoad(line));
+        return Err(Refusal::SheddableAboveLoad(line));
     }
-    RowRead::Values(sample)
+    Ok(sample)
 }
 
 // "cells left to right 18 before 19".
@@ -75,24 +70,24 @@ fn read_cells(
     second: &[u8],
     third: &[u8],
     fourth: &[u8],
-) -> RowRead
-    ensures { row_of result ≡ row_of_cells columns line (first.now ∷ second.now ∷ third.now ∷ fourth.now ∷ []) }
+) -> Result<Sample, Refusal>
+    ensures { result_of result ≡ row_of_cells columns line (first.now ∷ second.now ∷ third.now ∷ fourth.now ∷ []) }
 {
     let time = cell_under(0, first);
-    let CellValue::Value(at) = time else {
-        return RowRead::Refused(refusal_of(line, time));
+    let Ok(at) = time else {
+        return Err(refusal_of(line, time));
     };
     let left = cell_under(columns.second, second);
-    let CellValue::Value(second_value) = left else {
-        return RowRead::Refused(refusal_of(line, left));
+    let Ok(second_value) = left else {
+        return Err(refusal_of(line, left));
     };
     let middle = cell_under(columns.third, third);
-    let CellValue::Value(third_value) = middle else {
-        return RowRead::Refused(refusal_of(line, middle));
+    let Ok(third_value) = middle else {
+        return Err(refusal_of(line, middle));
     };
     let right = cell_under(columns.fourth, fourth);
-    let CellValue::Value(fourth_value) = right else {
-        return RowRead::Refused(refusal_of(line, right));
+    let Ok(fourth_value) = right else {
+        return Err(refusal_of(line, right));
     };
     let powers = Powers {
         second: second_value,
@@ -103,31 +98,31 @@ fn read_cells(
 }
 
 // `line` is the line's number, and `size` its length without the LF.
-pub fn read_row(columns: Columns, line: u64, size: usize, text: &[u8]) -> RowRead
-    ensures { row_of result ≡ row_in columns line (record { size = size; text = text.now }) }
+pub fn read_row(columns: Columns, line: u64, size: usize, text: &[u8]) -> Result<Sample, Refusal>
+    ensures { result_of result ≡ row_in columns line (record { size = size; text = text.now }) }
 {
     if MOST_LINE < size {
-        return RowRead::Refused(Refusal::LineLength(line));
+        return Err(Refusal::LineLength(line));
     }
     let first = cell_at(text, 0);
     let first_end = first.len();
     if text.len() <= first_end {
-        return RowRead::Refused(Refusal::CellCount(line));
+        return Err(Refusal::CellCount(line));
     }
     let second = cell_at(text, first_end + 1);
     let second_end = first_end + 1 + second.len();
     if text.len() <= second_end {
-        return RowRead::Refused(Refusal::CellCount(line));
+        return Err(Refusal::CellCount(line));
     }
     let third = cell_at(text, second_end + 1);
     let third_end = second_end + 1 + third.len();
     if text.len() <= third_end {
-        return RowRead::Refused(Refusal::CellCount(line));
+        return Err(Refusal::CellCount(line));
     }
     let fourth = cell_at(text, third_end + 1);
     let fourth_end = third_end + 1 + fourth.len();
     if fourth_end < text.len() {
-        return RowRead::Refused(Refusal::CellCount(line));
+        return Err(Refusal::CellCount(line));
     }
     read_cells(columns, line, first, second, third, fourth)
 }

@@ -1,5 +1,5 @@
 -- A heading line, heading by heading, each from where it starts. Assumes nothing.
-use Rattle.std.specs.Prelude.{if◌then◌else◌}
+use Rattle.std.specs.Prelude.{if◌then◌else◌, Ok, Err, Result}
 use Prim.Native.Nat.{ℕ, ◌+◌, ◌≤◌, ◌<◌}
 use mathlib.Core.Path.{◌≡◌, refl, sym, ap, ◌∙◌}
 use mathlib.Core.List.{List, [], ◌∷◌}
@@ -15,7 +15,6 @@ use Rattle.rules.specs.Answers.{Answer, accepted, refused, ◌>>=◌}
 use Rattle.rules.specs.Lines.{Line, cells_of}
 use Rattle.rules.specs.SampleFile.{sample_sheet, name_of, occurs, headings, heading_line}
 use Rattle.sheet_headings.specs.declared.headings.Columns.{Columns}
-use Rattle.sheet_headings.specs.declared.headings.Headed.{Headed}
 use Rattle.sheet_headings.specs.Cells.{cell_from}
 use Rattle.sheet_headings.specs.Headings.{columns_of, headed_of}
 use Rattle.sheet_headings.proofs.CellLaws.{cell-within, cell-last, cell-first}
@@ -83,13 +82,13 @@ module _ (text : List ℕ) (read : Columns) (right : Right read) (end : ℕ) whe
     past_more : past text end ≡ heading ∷ past text (end + 1 + length heading)
     past_more = rw (lt-ltb end (length text) more, e) (parts_from text (end + 1))
 
-    module _ (headed : Headed) (is : headed_of headed ≡ (headings names (columns_of read) (heading ∷ []) >>= along)) where
-      pub refused-there : (refusal : Refusal) → headed ≡ Headed.Refused refusal → headed_of headed ≡ from_there read text end
+    module _ (headed : Result Columns Refusal) (is : headed_of headed ≡ (headings names (columns_of read) (heading ∷ []) >>= along)) where
+      pub refused-there : (refusal : Refusal) → headed ≡ Err refusal → headed_of headed ≡ from_there read text end
       refused-there refusal h =
           let t = turn-refused read right heading (past text (end + 1 + length heading)) _ _ (sym (ap headed_of h) ∙ is) in
           rw h (sym (rw (past_more, t)))
 
-      pub found-there : (next : Columns) → headed ≡ Headed.Found next → Right next × (from_there read text end ≡ from_there next text (end + 1 + length heading))
+      pub found-there : (next : Columns) → headed ≡ Ok next → Right next × (from_there read text end ≡ from_there next text (end + 1 + length heading))
       found-there next h =
           let t = turn-found read right heading (past text (end + 1 + length heading)) next (sym (ap headed_of h) ∙ is) in
           (t.0, rw (past_more, t.1))

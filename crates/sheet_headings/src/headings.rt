@@ -17,12 +17,6 @@ pub struct Columns {
     pub fourth: u8,
 }
 
-#[derive(Clone, Copy)]
-pub enum Headed {
-    Found(Columns),
-    Refused(Refusal),
-}
-
 // The same bytes.
 fn same(a: &[u8], b: &[u8]) -> bool
     ensures { result ≡ same a.now b.now }
@@ -61,20 +55,20 @@ pub fn name_of(heading: &[u8]) -> u8
 
 // One heading more, after the columns that were read: the latest of them is the fourth, and each that is still to be read
 // has 0, the time's name, which no heading after the first may have.
-fn with_heading(read: Columns, heading: &[u8]) -> Headed
+fn with_heading(read: Columns, heading: &[u8]) -> Result<Columns, Refusal>
     ensures { headed_of result ≡ (headings sample_sheet.names (columns_of read) (heading.now ∷ []) then λ columns. accepted (0 ∷ drop 2 columns)) }
 {
     if heading.len() == 0 {
-        return Headed::Refused(Refusal::HeadingBlank(1));
+        return Err(Refusal::HeadingBlank(1));
     }
     let name = name_of(heading);
     if 3 < name {
-        return Headed::Refused(Refusal::HeadingUnknown(1));
+        return Err(Refusal::HeadingUnknown(1));
     }
     if (name == 0) | (name == read.second) | (name == read.third) | (name == read.fourth) {
-        return Headed::Refused(Refusal::HeadingTwice(1));
+        return Err(Refusal::HeadingTwice(1));
     }
-    Headed::Found(Columns {
+    Ok(Columns {
         second: read.third,
         third: read.fourth,
         fourth: name,
@@ -82,15 +76,15 @@ fn with_heading(read: Columns, heading: &[u8]) -> Headed
 }
 
 // "Heading line: 11, 16, left to right 12, 13, 14, then 15." `size` is the line's length without the LF.
-pub fn heading_line(size: usize, text: &[u8]) -> Headed
+pub fn heading_line(size: usize, text: &[u8]) -> Result<Columns, Refusal>
     ensures { headed_of result ≡ heading_line sample_sheet.names (record { size = size; text = text.now }) }
 {
     if MOST_LINE < size {
-        return Headed::Refused(Refusal::LineLength(1));
+        return Err(Refusal::LineLength(1));
     }
     let first = cell_at(text, 0);
     if 0 < name_of(first) {
-        return Headed::Refused(Refusal::FirstHeading(1));
+        return Err(Refusal::FirstHeading(1));
     }
     let mut read = Columns {
         second: 0,
@@ -101,14 +95,14 @@ pub fn heading_line(size: usize, text: &[u8]) -> Headed
     while end < text.len() {
         let heading = cell_at(text, end + 1);
         let headed = with_heading(read, heading);
-        let Headed::Found(next) = headed else {
+        let Ok(next) = headed else {
             return headed;
         };
         read = next;
         end = end + 1 + heading.len();
     }
     if read.second == 0 {
-        return Headed::Refused(Refusal::HeadingMissing(1));
+        return Err(Refusal::HeadingMissing(1));
     }
-    Headed::Found(read)
+    Ok(read)
 }

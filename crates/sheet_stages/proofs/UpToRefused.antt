@@ -1,4 +1,5 @@
 -- The rows of the lines up to the first refused one: one line after the other, and that they are the paper's. Assumes nothing.
+use Rattle.std.specs.Prelude.{Some, None, Option}
 use Prim.Native.Nat.{ℕ, suc}
 use mathlib.Core.Path.{◌≡◌, refl, sym, ap, ◌∙◌}
 use mathlib.Core.Bool.{true}
@@ -10,7 +11,6 @@ use Rattle.rules.specs.Answers.{Answer, accepted, refused, is_accepted, judged, 
 use Rattle.rules.specs.Lines.{Line}
 use Rattle.rules.proofs.Tests.{never}
 use Rattle.rules.proofs.Checks.{not-accepted, same-value}
-use Rattle.sheet_stages.specs.declared.stage.Found.{Found}
 use Rattle.sheet_stages.specs.ToCome.{row_before, RowsRead, or_else, longest, up_to_refused, row_first, answer_of, all_read, is_row}
 
 abbrev Answers : Type 0
@@ -25,12 +25,12 @@ longest-same f g (l ∷ ls) same =
     ap (λ (a : Answer (List Sample)). or_else a (f [])) (longest-same (λ (p : List Line). f (l ∷ p)) (λ (p : List Line). g (l ∷ p)) ls (λ p. same (l ∷ p)))
     ∙ ap (or_else (longest (λ (p : List Line). g (l ∷ p)) ls)) (same [])
 
-row-else : (found : Found) (a b : Answer (List Sample)) → or_else (row_before found a) (row_before found b) ≡ row_before found (or_else a b)
-row-else (Found.Row x) (accepted rows) b = refl
-row-else (Found.Row x) (refused number place) b = refl
-row-else Found.Nothing a b = refl
+row-else : (found : Option Sample) (a b : Answer (List Sample)) → or_else (row_before found a) (row_before found b) ≡ row_before found (or_else a b)
+row-else (Some x) (accepted rows) b = refl
+row-else (Some x) (refused number place) b = refl
+row-else None a b = refl
 
-longest-row : (found : Found) (g : Answers) (ls : List Line) → longest (λ (p : List Line). row_before found (g p)) ls ≡ row_before found (longest g ls)
+longest-row : (found : Option Sample) (g : Answers) (ls : List Line) → longest (λ (p : List Line). row_before found (g p)) ls ≡ row_before found (longest g ls)
 unfolding longest
 longest-row found g [] = refl
 longest-row found g (l ∷ ls) =
@@ -60,24 +60,24 @@ longest-some f (l ∷ ls) h = go (longest (λ (p : List Line). f (l ∷ p)) ls)
 
 -- ---- one line
 
-judged-row : (found : Found) (a : Answer (List Sample)) → judged (row_before found a) ≡ judged a
-judged-row (Found.Row x) (accepted rows) = refl
-judged-row (Found.Row x) (refused number place) = refl
-judged-row Found.Nothing a = refl
+judged-row : (found : Option Sample) (a : Answer (List Sample)) → judged (row_before found a) ≡ judged a
+judged-row (Some x) (accepted rows) = refl
+judged-row (Some x) (refused number place) = refl
+judged-row None a = refl
 
-verdict-first : (found : Found) (r : RowsRead) → (row_first found r).verdict ≡ r.verdict
-verdict-first (Found.Row x) r = refl
-verdict-first Found.Nothing r = refl
+verdict-first : (found : Option Sample) (r : RowsRead) → (row_first found r).verdict ≡ r.verdict
+verdict-first (Some x) r = refl
+verdict-first None r = refl
 
-rows-first : (found : Found) (a none : Answer (List Sample)) (v : Answer (Unit {0})) → value_or [] none ≡ [] → (is_row found ≡ true → is_accepted a ≡ true)
+rows-first : (found : Option Sample) (a none : Answer (List Sample)) (v : Answer (Unit {0})) → value_or [] none ≡ [] → (is_row found ≡ true → is_accepted a ≡ true)
     → value_or [] (or_else (row_before found a) none) ≡ (row_first found (record { rows = value_or [] a; verdict = v })).rows
-rows-first (Found.Row x) (accepted rows) none v e unrefused = refl
-rows-first (Found.Row x) (refused number place) none v e unrefused = never (unrefused refl)
-rows-first Found.Nothing (accepted rows) none v e unrefused = refl
-rows-first Found.Nothing (refused number place) none v e unrefused = e
+rows-first (Some x) (accepted rows) none v e unrefused = refl
+rows-first (Some x) (refused number place) none v e unrefused = never (unrefused refl)
+rows-first None (accepted rows) none v e unrefused = refl
+rows-first None (refused number place) none v e unrefused = e
 
 -- a line that gives a row is followed by lines of which none is needed
-pub line_read : (f g : Answers) (l : Line) (ls : List Line) (found : Found) → ((p : List Line) → f (l ∷ p) ≡ row_before found (g p)) → value_or [] (f []) ≡ []
+pub line_read : (f g : Answers) (l : Line) (ls : List Line) (found : Option Sample) → ((p : List Line) → f (l ∷ p) ≡ row_before found (g p)) → value_or [] (f []) ≡ []
     → (is_row found ≡ true → is_accepted (g []) ≡ true) → up_to_refused f (l ∷ ls) ≡ row_first found (up_to_refused g ls)
 unfolding up_to_refused longest
 line_read f g l ls found leads none unrefused =
@@ -115,13 +115,13 @@ answer-read f ls = go (f ls) refl
     go (accepted rows) e = ap (λ (b : Answer (List Sample)). accepted (value_or [] b)) (longest-whole f ls rows e)
     go (refused number place) e = refl
 
-pub answer-first : (found : Found) (r : RowsRead) → answer_of (row_first found r) ≡ row_before found (answer_of r)
-answer-first (Found.Row x) r = go r.verdict
+pub answer-first : (found : Option Sample) (r : RowsRead) → answer_of (row_first found r) ≡ row_before found (answer_of r)
+answer-first (Some x) r = go r.verdict
   where
-    go : (v : Answer (Unit {0})) → (v >> accepted (x ∷ r.rows)) ≡ row_before (Found.Row x) (v >> accepted r.rows)
+    go : (v : Answer (Unit {0})) → (v >> accepted (x ∷ r.rows)) ≡ row_before (Some x) (v >> accepted r.rows)
     go (accepted u) = refl
     go (refused number place) = refl
-answer-first Found.Nothing r = refl
+answer-first None r = refl
 
 -- where it is accepted these are all the rows
 pub all_read_lem : (r : RowsRead) → r.verdict ≡ accepted tt → r ≡ all_read r.rows

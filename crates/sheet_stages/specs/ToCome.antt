@@ -1,14 +1,13 @@
 -- Document 01, "The sample file", line by line: what the lines of a file still come to, once those before them came to a stage.
 -- Each stage is one of the paper's own definitions on the lines that are left; no row is defined anew.
-use Rattle.std.specs.Prelude.{ℕ, suc, min, Bool, true, false, List, [], ◌∷◌, map}
+use Rattle.std.specs.Prelude.{ℕ, suc, min, Bool, true, false, List, [], ◌∷◌, map, Some, None, Result, Option}
 use Rattle.rules.specs.declared.samples.Sample.{Sample}
-use Rattle.rules.specs.Answers.{Answer, accepted, refused, judged, value_or, refusal_of, verdict_of, ◌>>◌}
+use Rattle.rules.specs.Answers.{Answer, accepted, refused, judged, value_or, refusal_of, result_of, ◌>>◌}
 use Rattle.rules.specs.Lines.{Line, lines}
-use Rattle.rules.specs.declared.answers.Verdict.{Verdict}
 use Rattle.rules.specs.SampleFile.{sample_sheet, sheet_lines, rows_after, later_rows, sample_of}
 use Rattle.sheet_stages.specs.declared.stage.Stage.{Stage}
-use Rattle.sheet_stages.specs.declared.stage.Found.{Found}
 use Rattle.sheet_headings.specs.Headings.{columns_of}
+use Rattle.rules.specs.declared.answers.Refusal.{Refusal}
 
 -- the greatest place that 64 bits hold; a line beyond it has it as its place
 abbrev pub most_place : ℕ
@@ -32,10 +31,10 @@ answer_from (Stage.LaterRows columns last n) ls = placed (samples_of (later_rows
 answer_from (Stage.Refused r) ls = refusal_of r
 
 -- the row that was found stands before those of an answer
-abbrev pub row_before : Found → Answer (List Sample) → Answer (List Sample)
-row_before (Found.Row x) (accepted rows) = accepted (x ∷ rows)
-row_before (Found.Row x) (refused number place) = refused number place
-row_before Found.Nothing a = a
+abbrev pub row_before : Option Sample → Answer (List Sample) → Answer (List Sample)
+row_before (Some x) (accepted rows) = accepted (x ∷ rows)
+row_before (Some x) (refused number place) = refused number place
+row_before None a = a
 
 -- ---- the rows of the lines up to the first refused one, beside that refusal: a refused file has rows too
 
@@ -65,9 +64,9 @@ unfoldable pub file_rows : List ℕ → RowsRead
 file_rows s = up_to_refused (λ (ls : List Line). placed (samples_of (sheet_lines sample_sheet ls))) (lines s)
 
 -- the rows after the one that was found are those to come
-abbrev pub row_first : Found → RowsRead → RowsRead
-row_first (Found.Row x) r = record { rows = x ∷ r.rows; verdict = r.verdict }
-row_first Found.Nothing r = r
+abbrev pub row_first : Option Sample → RowsRead → RowsRead
+row_first (Some x) r = record { rows = x ∷ r.rows; verdict = r.verdict }
+row_first None r = r
 
 -- the paper's answer: the rows, where no line is refused
 abbrev pub answer_of : RowsRead → Answer (List Sample)
@@ -78,12 +77,12 @@ abbrev pub all_read : List Sample → RowsRead
 all_read rows = record { rows = rows; verdict = accepted tt }
 
 -- at the end of the file
-abbrev pub end_of : Verdict → RowsRead
-end_of v = record { rows = []; verdict = verdict_of v }
+abbrev pub end_of : Result (Unit {0}) Refusal → RowsRead
+end_of v = record { rows = []; verdict = result_of v }
 
-abbrev pub is_row : Found → Bool
-is_row (Found.Row x) = true
-is_row Found.Nothing = false
+abbrev pub is_row : Option Sample → Bool
+is_row (Some x) = true
+is_row None = false
 
 -- a line was refused, so that no rest of the file changes the answer
 abbrev pub is_refused : Stage → Bool

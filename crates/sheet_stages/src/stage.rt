@@ -1,16 +1,17 @@
 // One line after another: what the lines so far came to, and the row that a line gives.
 ghost use Rattle.std.specs.Prelude.{◌≡◌, suc, min, ◌<◌, List, [], ◌∷◌};
+ghost use Rattle.rules.specs.Answers.{result_of};
 ghost use Rattle.rules.specs.Lines.{Line};
 ghost use Rattle.rules.specs.SampleFile.{sample_sheet, heading_line};
 ghost use Rattle.sheet_headings.specs.Headings.{headed_of};
-ghost use Rattle.sheet.specs.Rows.{row_of, row_in};
+ghost use Rattle.sheet.specs.Rows.{row_in};
 ghost use Rattle.sheet_stages.specs.ToCome.{most_place, to_come, row_first, end_of, is_refused};
 ghost use Rattle.sheet_stages.specs.Stages.{after_later};
 
-use rules::answers::{Refusal, Verdict};
+use rules::answers::Refusal;
 use rules::samples::Sample;
-use sheet::rows::{RowRead, read_row};
-use sheet_headings::headings::{Columns, Headed, heading_line};
+use sheet::rows::read_row;
+use sheet_headings::headings::{Columns, heading_line};
 
 // The heading line is awaited; the first row; a later row, with the columns, the time of the last accepted row, and how many
 // lines there were; or a line was refused.
@@ -22,17 +23,10 @@ pub enum Stage {
     Refused(Refusal),
 }
 
-// The row that a line gave.
-#[derive(Clone, Copy)]
-pub enum Found {
-    Row(Sample),
-    Nothing,
-}
-
 #[derive(Clone, Copy)]
 pub struct Turn {
     pub stage: Stage,
-    pub found: Found,
+    pub found: Option<Sample>,
 }
 
 // One line more, up to the greatest place that 64 bits hold.
@@ -43,16 +37,16 @@ pub fn next_line(lines: u64) -> u64
 }
 
 // After the heading line, the first row is awaited.
-fn after_heading(headed: Headed) -> Turn
+fn after_heading(headed: Result<Columns, Refusal>) -> Turn
     ensures { (l : Line) (ls : List Line) → headed_of headed ≡ heading_line sample_sheet.names l → to_come Stage.Heading (l ∷ ls) ≡ row_first result.found (to_come result.stage ls) }
 {
-    let found = Found::Nothing;
+    let found = None;
     match headed {
-        Headed::Found(columns) => Turn {
+        Ok(columns) => Turn {
             stage: Stage::FirstRow(columns),
             found,
         },
-        Headed::Refused(refusal) => Turn {
+        Err(refusal) => Turn {
             stage: Stage::Refused(refusal),
             found,
         },
@@ -60,48 +54,48 @@ fn after_heading(headed: Headed) -> Turn
 }
 
 // 21: "first row's time not 0".
-fn after_first(columns: Columns, row: RowRead) -> Turn
-    ensures { (l : Line) (ls : List Line) → row_of row ≡ row_in columns 2 l → to_come (Stage.FirstRow columns) (l ∷ ls) ≡ row_first result.found (to_come result.stage ls) }
+fn after_first(columns: Columns, row: Result<Sample, Refusal>) -> Turn
+    ensures { (l : Line) (ls : List Line) → result_of row ≡ row_in columns 2 l → to_come (Stage.FirstRow columns) (l ∷ ls) ≡ row_first result.found (to_come result.stage ls) }
 {
     match row {
-        RowRead::Refused(refusal) => Turn {
+        Err(refusal) => Turn {
             stage: Stage::Refused(refusal),
-            found: Found::Nothing,
+            found: None,
         },
-        RowRead::Values(sample) => {
+        Ok(sample) => {
             if sample.at == 0 {
                 return Turn {
                     stage: Stage::LaterRows(columns, 0, 2),
-                    found: Found::Row(sample),
+                    found: Some(sample),
                 };
             }
             let stage = Stage::Refused(Refusal::FirstTime(2));
-            let found = Found::Nothing;
+            let found = None;
             Turn { stage, found }
         }
     }
 }
 
 // "A later row whose time is not above the last accepted one is skipped, after its checks".
-pub fn after_later(columns: Columns, last: u32, line: u64, row: RowRead) -> Turn
+pub fn after_later(columns: Columns, last: u32, line: u64, row: Result<Sample, Refusal>) -> Turn
     ensures { result ≡ after_later columns last line row }
 {
     match row {
-        RowRead::Refused(refusal) => Turn {
+        Err(refusal) => Turn {
             stage: Stage::Refused(refusal),
-            found: Found::Nothing,
+            found: None,
         },
-        RowRead::Values(sample) => {
+        Ok(sample) => {
             let at = sample.at;
             if last < at {
                 return Turn {
                     stage: Stage::LaterRows(columns, at, line),
-                    found: Found::Row(sample),
+                    found: Some(sample),
                 };
             }
             Turn {
                 stage: Stage::LaterRows(columns, last, line),
-                found: Found::Nothing,
+                found: None,
             }
         }
     }
@@ -120,7 +114,7 @@ pub fn take_line(stage: Stage, size: usize, text: &[u8]) -> Turn
         }
         Stage::Refused(refusal) => Turn {
             stage: Stage::Refused(refusal),
-            found: Found::Nothing,
+            found: None,
         },
     }
 }
@@ -138,14 +132,14 @@ pub fn too_long(stage: Stage) -> Stage
 }
 
 // The end of the file.
-pub fn verdict_at(stage: Stage) -> Verdict
+pub fn verdict_at(stage: Stage) -> Result<(), Refusal>
     ensures { end_of result ≡ to_come stage [] }
 {
     match stage {
-        Stage::Heading => Verdict::Refused(Refusal::FirstHeading(1)),
-        Stage::FirstRow(_) => Verdict::Refused(Refusal::NoRow),
-        Stage::LaterRows(_, _, _) => Verdict::Accepted,
-        Stage::Refused(refusal) => Verdict::Refused(refusal),
+        Stage::Heading => Err(Refusal::FirstHeading(1)),
+        Stage::FirstRow(_) => Err(Refusal::NoRow),
+        Stage::LaterRows(_, _, _) => Ok(()),
+        Stage::Refused(refusal) => Err(refusal),
     }
 }
 

@@ -2,6 +2,7 @@
 -- output leaves in lent buffers of at least 256 bytes, the bytes handed over, in order, are those that document 01's definition prints.
 -- All that is known of a call is what the function's own contract ensures. Assumes nothing but what the hypotheses say: both passes
 -- over the sample file read the same bytes, fewer than 2^64.
+use Rattle.std.specs.Prelude.{Result}
 use Prim.Native.Nat.{ℕ, ◌≤◌}
 use mathlib.Core.Path.{◌≡◌, refl, sym, ap, ◌∙◌, subst}
 use mathlib.Core.Bool.{Bool}
@@ -18,7 +19,7 @@ use denote.Triple.Clauses as clauses
 use Rattle.rules.specs.declared.answers.Refusal.{Refusal}
 use Rattle.rules.specs.declared.station.Station.{Station}
 use Rattle.rules.specs.Bytes.{AreBytes, SliceHeld}
-use Rattle.rules.specs.Answers.{Answer, accepted, refused}
+use Rattle.rules.specs.Answers.{Answer, accepted, refused, result_of}
 use Rattle.rules.specs.StationFile.{station_file}
 use Rattle.rules.specs.Run.{seconds_asked, printed}
 use Rattle.station.specs.declared.chunks.StationBytes.{StationBytes}
@@ -26,9 +27,8 @@ use Rattle.station.specs.Stations.{station_with}
 use Rattle.station.proofs.StationChunks as stations
 use Rattle.samples.specs.declared.check.Span.{Span}
 use Rattle.samples.specs.declared.check.SampleCheck.{SampleCheck}
-use Rattle.samples.specs.declared.check.Checked.{Checked}
 use Rattle.sheet_stages.specs.ToCome.{most_place}
-use Rattle.samples.specs.Streamed.{sheet_span, checked_of}
+use Rattle.samples.specs.Streamed.{sheet_span}
 use Rattle.rules.specs.Chunks.{joined, Feeds}
 use Rattle.samples.proofs.CheckLaws.{span-place}
 use Rattle.samples.proofs.Chunks as checks
@@ -54,7 +54,7 @@ use Rattle.simulation.proofs.advance.advance.Kinds as advance-kinds
 -- ---- calls of which only what their contracts ensure is known
 
 -- `begin` was handed the station's bytes, the check's answer and the seconds asked, and gave s
-pub record BegunBy (file : StationBytes) (checked : Checked) (asked : List ℕ) (s : Simulation) : Type 0 where
+pub record BegunBy (file : StationBytes) (checked : Result Span Refusal) (asked : List ℕ) (s : Simulation) : Type 0 where
   pub κs : Lfts 1
   pub args : kinds.Dens κs begin-kinds.ps
   pub exit : clauses.AtExit (kinds.ended_of 1 begin-kinds.ps begin-kinds.r) κs
@@ -70,9 +70,9 @@ pub record CalledBy (s : Simulation) (chunk : List ℕ) (at : ℕ) (ended : Bool
   pub returned : advance-reads.Post κs args r exit
   pub seen : exit.1.1.1.1.0.now ≡ left
 
-begun-owes : (file : StationBytes) (checked : Checked) (asked : List ℕ) (s : Simulation) → BegunBy file checked asked s → BegunAs (station_with file []) (checked_of checked) (seconds_asked asked) s
+begun-owes : (file : StationBytes) (checked : Result Span Refusal) (asked : List ℕ) (s : Simulation) → BegunBy file checked asked s → BegunAs (station_with file []) (result_of checked) (seconds_asked asked) s
 begun-owes file checked asked s e =
-    let p : BegunAs (station_with e.args.0 []) (checked_of e.args.1.0) (seconds_asked e.args.1.1.0.now) s = e.returned in
+    let p : BegunAs (station_with e.args.0 []) (result_of e.args.1.0) (seconds_asked e.args.1.1.0.now) s = e.returned in
     rw (e.passed.0, e.passed.1, e.passed.2) at p
 
 called-owes : {s : Simulation} {chunk : List ℕ} {at : ℕ} {ended : Bool} {lent : List ℕ} {r : Turn} {left : List ℕ} → CalledBy s chunk at ended lent r left → Called s chunk at ended lent r left
@@ -92,16 +92,16 @@ checked-for : (a : Answer Station) (checked : Answer Span) (samples : List ℕ) 
 checked-for (accepted st) checked samples e = e
 checked-for (refused n p) checked samples e = tt
 
-module _ (chunks : List (List ℕ)) (asked : List ℕ) (f₀ f : StationBytes) (v : Checked) (s : Simulation)
+module _ (chunks : List (List ℕ)) (asked : List ℕ) (f₀ f : StationBytes) (v : Result Span Refusal) (s : Simulation)
     (begun : stations.Begun f₀) (fed : Feeds stations.Fed f₀ chunks f) (b : BegunBy f v asked s) where
   abbrev station : List ℕ
   station = joined chunks
 
-  begun-with : BegunAs (station_file station) (checked_of v) (seconds_asked asked) s
-  begun-with = subst (λ (a : Answer Station). BegunAs a (checked_of v) (seconds_asked asked) s) (stations.station-of-chunks chunks f₀ f begun fed) (begun-owes f v asked s b)
+  begun-with : BegunAs (station_file station) (result_of v) (seconds_asked asked) s
+  begun-with = subst (λ (a : Answer Station). BegunAs a (result_of v) (seconds_asked asked) s) (stations.station-of-chunks chunks f₀ f begun fed) (begun-owes f v asked s b)
 
-  starts : (samples : List ℕ) → CheckedFor (station_file station) (checked_of v) samples → Starts s samples (printed station samples asked)
-  starts samples c = begins-right station samples asked (checked_of v) s c begun-with
+  starts : (samples : List ℕ) → CheckedFor (station_file station) (result_of v) samples → Starts s samples (printed station samples asked)
+  starts samples c = begins-right station samples asked (result_of v) s c begun-with
 
   -- ---- THE THEOREM: both files to their ends, and the samples twice
 
@@ -110,7 +110,7 @@ module _ (chunks : List (List ℕ)) (asked : List ℕ) (f₀ f : StationBytes) (
       → Prints (printed station (joined pass_one) asked) (most_calls s pass_two) n out last
   run-prints pass_one pass_two c₀ c n out last cb cf ce calls small same =
       let checked = (checks.check-streamed pass_one c₀ c v small cb cf ce).0 in
-      let st = starts (joined pass_one) (checked-for (station_file station) (checked_of v) (joined pass_one) checked) in
+      let st = starts (joined pass_one) (checked-for (station_file station) (result_of v) (joined pass_one) checked) in
       calls-print (subst (λ (l : List ℕ). Starts s l (printed station (joined pass_one) asked)) (sym same) st) (calls-owe calls)
 
   -- ---- a refusal needs no second pass, and the rest of a refused sample file no first one
@@ -123,16 +123,16 @@ module _ (chunks : List (List ℕ)) (asked : List ℕ) (f₀ f : StationBytes) (
         text-is = st.text-is;
       }
 
-  pub refusal-prints : (samples : List ℕ) (chunks₂ : List (List ℕ)) (refusal : Refusal) (n : ℕ) (out : List ℕ) (last : Simulation) → s.phase ≡ Phase.Refusal refusal → CheckedFor (station_file station) (checked_of v) samples
+  pub refusal-prints : (samples : List ℕ) (chunks₂ : List (List ℕ)) (refusal : Refusal) (n : ℕ) (out : List ℕ) (last : Simulation) → s.phase ≡ Phase.Refusal refusal → CheckedFor (station_file station) (result_of v) samples
       → Calls CalledBy s 0 chunks₂ n out last → Prints (printed station samples asked) (most_calls s chunks₂) n out last
   refusal-prints samples chunks₂ refusal n out last e c calls =
       calls-print (refusal-starts samples (joined chunks₂) (printed station samples asked) refusal e (starts samples c)) (calls-owe calls)
 
   -- a check that stopped at a refused line answers for the whole file, whatever its rest is
   pub cut_short : (pass_one : List (List ℕ)) (rest : List ℕ) (c₀ c : SampleCheck) → checks.Begun c₀ → Feeds checks.Fed c₀ pass_one c → checks.ToldRefused c → checks.Finished c v
-      → length (joined pass_one ++ rest) ≤ most_place → CheckedFor (station_file station) (checked_of v) (joined pass_one ++ rest)
+      → length (joined pass_one ++ rest) ≤ most_place → CheckedFor (station_file station) (result_of v) (joined pass_one ++ rest)
   cut_short pass_one rest c₀ c cb cf ct ce small =
-      checked-for (station_file station) (checked_of v) (joined pass_one ++ rest) (checks.check-cut-short pass_one rest c₀ c v cb cf ct ce ∙ span-place (joined pass_one ++ rest) small)
+      checked-for (station_file station) (result_of v) (joined pass_one ++ rest) (checks.check-cut-short pass_one rest c₀ c v cb cf ct ce ∙ span-place (joined pass_one ++ rest) small)
 
   -- ---- where the second pass reads other bytes: what is handed over is how the text of some inputs begins, one for each second asked
 

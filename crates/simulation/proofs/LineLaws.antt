@@ -1,4 +1,5 @@
 -- A line that is put into the tail of a lent buffer. Assumes nothing.
+use Rattle.std.specs.Prelude.{Ok, Err, Result}
 use Prim.Native.Nat.{ℕ, ◌+◌, ◌-◌, ◌≤◌}
 use mathlib.Core.Path.{◌≡◌, refl, sym, ap, ◌∙◌}
 use mathlib.Core.Bool.{true, false}
@@ -7,7 +8,6 @@ use native.Mathlib.Omega.{arith}
 use lib.Dec.{leb}
 use lib.ListN.{length, take, drop, length-append, length-drop, drop_of_length-le, take-append-drop}
 use lib.Seq.{take_all}
-use Rattle.rules.specs.declared.answers.Outcome.{Outcome}
 use Rattle.rules.specs.declared.answers.Refusal.{Refusal}
 use Rattle.rows.specs.Written.{TextPut}
 use Rattle.rows.proofs.Room.{put-means, none-means}
@@ -42,20 +42,20 @@ module _ (t : Turn) (out left : List ℕ) where
   abbrev back : List ℕ
   back = take t.written out ++ (left ++ drop (length out - t.written) lent)
 
-  module _ (answer : Outcome) (p : TextPut line lent answer left) (same : length left ≡ length lent) where
-    pub line-room : (size : ℕ) → answer ≡ Outcome.Row size → t.written ≤ length out → t.written + size ≤ length out
+  module _ (answer : Result ℕ Refusal) (p : TextPut line lent answer left) (same : length left ≡ length lent) where
+    pub line-room : (size : ℕ) → answer ≡ Ok size → t.written ≤ length out → t.written + size ≤ length out
     line-room size is h =
         let w = put-means line lent answer size left is p in
         omega (arith, w.size_is, put-fits line lent left w.left_is same, length-drop t.written out)
 
-    pub line-moves : (size : ℕ) → answer ≡ Outcome.Row size → t.written ≤ length out
+    pub line-moves : (size : ℕ) → answer ≡ Ok size → t.written ≤ length out
         → LineMoved t out (record { simulation = (with_line t).simulation; next = t.next; written = t.written + size; wants = Wants.Further }) back
     line-moves size is h =
         let w = put-means line lent answer size left is p in
         let e : leb 256 (length out - t.written) ≡ true = ap (leb 256) (sym (length-drop t.written out)) ∙ w.roomy in
         rw e (ap (λ (n : ℕ). record { simulation = (with_line t).simulation; next = t.next; written = t.written + n; wants = Wants.Further }) w.size_is, back_is out left t.written ∙ ap (λ (l : List ℕ). take t.written out ++ l) w.left_is, rw w.size_is at (line-room size is h))
 
-    pub line-waits : (why : Refusal) → answer ≡ Outcome.Refused why → LineMoved t out (waiting_for t Wants.Room) back
+    pub line-waits : (why : Refusal) → answer ≡ Err why → LineMoved t out (waiting_for t Wants.Room) back
     line-waits why is =
         let w = none-means line lent answer why left is p in
         let e : leb 256 (length out - t.written) ≡ false = ap (leb 256) (sym (length-drop t.written out)) ∙ w.0 in

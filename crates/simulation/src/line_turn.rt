@@ -6,23 +6,23 @@ ghost use Rattle.simulation.specs.Turns.{LineMoved};
 
 use course::state::set_states;
 use rows::run_lines::{put_refused, put_row_heading, put_set_heading, put_set_line};
-use rules::answers::{Outcome, Refusal};
+use rules::answers::Refusal;
 use rules::limits::LEAST_ROW_BUFFER;
 use rules::run::SetState;
 use run_phases::phases::phase_after;
 use run_phases::state::{Phase, Simulation, Turn, Wants};
 
 // No line, where one would have room.
-fn put_nothing(tail: &mut [u8]) -> Outcome
+fn put_nothing(tail: &mut [u8]) -> Result<usize, Refusal>
     ensures { TextPut [] tail.old result tail.new }
 {
     if tail.len() < LEAST_ROW_BUFFER {
-        return Outcome::Refused(Refusal::RowBuffer);
+        return Err(Refusal::RowBuffer);
     }
-    Outcome::Row(0)
+    Ok(0)
 }
 
-fn put_set(states: [SetState; 8], place: usize, tail: &mut [u8]) -> Outcome
+fn put_set(states: [SetState; 8], place: usize, tail: &mut [u8]) -> Result<usize, Refusal>
     ensures { TextPut (set_line_at states place) tail.old result tail.new }
 {
     if 8 <= place {
@@ -33,7 +33,7 @@ fn put_set(states: [SetState; 8], place: usize, tail: &mut [u8]) -> Outcome
 }
 
 // The line that a phase has, at the front of the buffer's tail.
-fn put_line_of(phase: Phase, states: [SetState; 8], tail: &mut [u8]) -> Outcome
+fn put_line_of(phase: Phase, states: [SetState; 8], tail: &mut [u8]) -> Result<usize, Refusal>
     ensures { TextPut (line_of phase states) tail.old result tail.new }
 {
     match phase {
@@ -79,12 +79,12 @@ pub(crate) fn line_turn(t: Turn, out: &mut [u8]) -> Turn
     let at = t.written;
     let answer = put_line_of(phase, states, &mut out[at..]);
     match answer {
-        Outcome::Row(size) => Turn {
+        Ok(size) => Turn {
             simulation: with_phase(simulation, phase_after(phase)),
             next: t.next,
             written: at + size,
             wants: Wants::Further,
         },
-        Outcome::Refused(_) => waiting(t, Wants::Room),
+        Err(_) => waiting(t, Wants::Room),
     }
 }

@@ -1,5 +1,6 @@
 -- "then 8 for such a mask wrong, then 19 for power above its capacity": the checks of a call one after the other, and what a mask
 -- and a power that passed them are. Assumes nothing.
+use Rattle.std.specs.Prelude.{Ok}
 use Prim.Native.Nat.{ℕ, suc, ◌-◌, ◌^◌, ◌≤◌, ◌<◌}
 use mathlib.Core.Path.{◌≡◌, sym, ap, ◌∙◌}
 use mathlib.Core.Bool.{Bool, true, false}
@@ -26,7 +27,6 @@ use Rattle.words.specs.Masks.{next_set}
 use Rattle.words.proofs.Walk.{place}
 use Rattle.words.proofs.Weighed.{one-set-inside, one-set-weighed}
 use Rattle.gensets.specs.declared.share.ShareAnswer.{ShareAnswer}
-use Rattle.gensets.specs.declared.fuel.Rate.{Rate}
 use Rattle.gensets.specs.Leaves.{shares_told, rate_told}
 use Rattle.gensets.proofs.SharesCases.{shared}
 use Rattle.gensets.proofs.FuelFacts.{station-rate}
@@ -101,8 +101,8 @@ module _ (st : Station) (given : some_file_gives st ≡ true) (shaped : Shaped s
   unfolding capacity running_total
   one-capacity = one-set-weighed mask small one (λ i. (set_at st.sets i).rating)
 
-  pub one-rate : (power : ℕ) → power ≤ capacity st.sets mask → rate_told (set_at st.sets (next_set mask 0)) power ≡ Rate.PerHour (rate_of_mask st mask power)
+  pub one-rate : (power : ℕ) → power ≤ capacity st.sets mask → rate_told (set_at st.sets (next_set mask 0)) power ≡ Ok (rate_of_mask st mask power)
   unfolding rate_of_mask
   one-rate power l =
       station-rate st shaped given (next_set mask 0) existing power (omega (arith, l, one-capacity))
-      ∙ ap Rate.PerHour (sym (one-set-weighed mask small one (λ i. fuel_rate (set_at st.sets i) power)))
+      ∙ ap Ok (sym (one-set-weighed mask small one (λ i. fuel_rate (set_at st.sets i) power)))

@@ -1,48 +1,48 @@
 // "fuel rate takes the first three, with a mask of one set".
 ghost use Rattle.std.specs.Prelude.{◌≡◌, true};
-ghost use Rattle.rules.specs.Answers.{amount_of};
+ghost use Rattle.rules.specs.Answers.{result_of};
 ghost use Rattle.rules.specs.StationRecord.{some_file_gives};
 ghost use Rattle.rules.specs.Sizing.{rate_asked, rate_of};
 ghost use Rattle.rules.proofs.Shapes.{Shaped};
 
-use gensets::fuel::{Rate, fuel_rate};
+use gensets::fuel::fuel_rate;
 use gensets::share::capacity;
-use rules::answers::{Amount, Refusal, Verdict};
+use rules::answers::Refusal;
 use rules::station::Station;
 use station::reader::read_station;
 use words::masks::{existing_only, next_set};
 
-fn rate_of_station(st: Station, mask: u64, power: u64) -> Amount
+fn rate_of_station(st: Station, mask: u64, power: u64) -> Result<u64, Refusal>
     requires { (some_file_gives st ≡ true) × Shaped st }
-    ensures { amount_of result ≡ rate_of st mask power }
+    ensures { result_of result ≡ rate_of st mask power }
 {
     let setcount = st.setcount;
     if !(existing_only(setcount, mask) & (u64::count_ones(mask) == 1)) {
-        return Amount::Refused(Refusal::ConfigurationMask(0));
+        return Err(Refusal::ConfigurationMask(0));
     }
     let sets = st.sets;
     let named = mask as u32;
     if capacity(sets, named) < power {
-        return Amount::Refused(Refusal::OverLimit(0));
+        return Err(Refusal::OverLimit(0));
     }
     let at = next_set(named, 0) as usize;
     let g = sets[at];
     let rate = fuel_rate(g, power as u32);
     // never taken: a set of a file has a rate at every power up to its rating
-    let Rate::PerHour(value) = rate else {
-        return Amount::Refused(Refusal::OverLimit(0));
+    let Ok(value) = rate else {
+        return Err(Refusal::OverLimit(0));
     };
-    Amount::Value(value)
+    Ok(value)
 }
 
-pub(crate) fn rate_asked(s: &[u8], mask: u64, power: u64) -> Amount
-    ensures { amount_of result ≡ rate_asked s.now mask power }
+pub(crate) fn rate_asked(s: &[u8], mask: u64, power: u64) -> Result<u64, Refusal>
+    ensures { result_of result ≡ rate_asked s.now mask power }
 {
     let reading = read_station(s);
     let verdict = reading.verdict;
     let st = reading.station;
     match verdict {
-        Verdict::Accepted => rate_of_station(st, mask, power),
-        Verdict::Refused(refusal) => Amount::Refused(refusal),
+        Ok(()) => rate_of_station(st, mask, power),
+        Err(refusal) => Err(refusal),
     }
 }

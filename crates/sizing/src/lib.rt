@@ -1,15 +1,15 @@
 #![tactic(auto)]
 // The calls of the C sizing screen: plain numbers and byte slices in, an answer by value out. `include/sizing.h` declares them.
 ghost use Rattle.std.specs.Prelude.{◌≡◌, ℕ};
-ghost use Rattle.rules.specs.Answers.{refusal_of, verdict_of, amount_of};
+ghost use Rattle.rules.specs.Answers.{refusal_of, result_of};
 ghost use Rattle.rules.specs.Sizing.{station_check, sample_check, share_asked, rate_asked};
 ghost use Rattle.sizing.specs.Screen.{screen_answer, screen_verdict};
 
 mod fuel;
 mod share;
 
-use rules::answers::{Amount, Refusal, Verdict};
-use samples::check::{Checked, check_samples};
+use rules::answers::Refusal;
+use samples::check::check_samples;
 use station::reader::read_station;
 use words::refusals::number_and_place;
 
@@ -33,25 +33,25 @@ fn refused(refusal: Refusal) -> SizingAnswer
     }
 }
 
-fn answered(amount: Amount) -> SizingAnswer
-    ensures { result ≡ screen_answer (amount_of amount) }
+fn answered(amount: Result<u64, Refusal>) -> SizingAnswer
+    ensures { result ≡ screen_answer (result_of amount) }
 {
     match amount {
-        Amount::Value(value) => SizingAnswer {
+        Ok(value) => SizingAnswer {
             number: 0,
             place: 0,
             value,
         },
-        Amount::Refused(refusal) => refused(refusal),
+        Err(refusal) => refused(refusal),
     }
 }
 
-fn judged(verdict: Verdict) -> SizingAnswer
-    ensures { result ≡ screen_verdict (verdict_of verdict) }
+fn judged(verdict: Result<(), Refusal>) -> SizingAnswer
+    ensures { result ≡ screen_verdict (result_of verdict) }
 {
     match verdict {
-        Verdict::Accepted => answered(Amount::Value(0)),
-        Verdict::Refused(refusal) => refused(refusal),
+        Ok(()) => answered(Ok(0)),
+        Err(refusal) => refused(refusal),
     }
 }
 
@@ -71,8 +71,8 @@ pub extern "C" fn sizing_check_samples(samples: &[u8]) -> SizingAnswer
     ensures { result ≡ screen_verdict (sample_check samples.now) }
 {
     match check_samples(samples) {
-        Checked::Accepted(_) => judged(Verdict::Accepted),
-        Checked::Refused(refusal) => refused(refusal),
+        Ok(_) => judged(Ok(())),
+        Err(refusal) => refused(refusal),
     }
 }
 

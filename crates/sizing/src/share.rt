@@ -1,12 +1,12 @@
 // "Share takes station bytes, a mask, a power and a set's number, and answers that set's watts".
 ghost use Rattle.std.specs.Prelude.{◌≡◌, true, ◌≤◌};
-ghost use Rattle.rules.specs.Answers.{amount_of};
+ghost use Rattle.rules.specs.Answers.{result_of};
 ghost use Rattle.rules.specs.Share.{capacity};
 ghost use Rattle.rules.specs.StationRecord.{some_file_gives};
 ghost use Rattle.rules.specs.Sizing.{share_asked, share_of, share_of_set};
 
 use gensets::share::{capacity, shares};
-use rules::answers::{Amount, Refusal, Verdict};
+use rules::answers::Refusal;
 use rules::station::Station;
 use station::reader::read_station;
 use words::masks::existing_only;
@@ -30,30 +30,30 @@ fn share_of_set(st: Station, mask: u32, power: u32, set: u64) -> u64
     watts[at] as u64
 }
 
-fn share_of_station(st: Station, mask: u64, power: u64, set: u64) -> Amount
+fn share_of_station(st: Station, mask: u64, power: u64, set: u64) -> Result<u64, Refusal>
     requires { some_file_gives st ≡ true }
-    ensures { amount_of result ≡ share_of st mask power set }
+    ensures { result_of result ≡ share_of st mask power set }
 {
     let setcount = st.setcount;
     if !(existing_only(setcount, mask) & (0 < mask)) {
-        return Amount::Refused(Refusal::ConfigurationMask(0));
+        return Err(Refusal::ConfigurationMask(0));
     }
     let sets = st.sets;
     let named = mask as u32;
     if capacity(sets, named) < power {
-        return Amount::Refused(Refusal::OverLimit(0));
+        return Err(Refusal::OverLimit(0));
     }
-    Amount::Value(share_of_set(st, named, power as u32, set))
+    Ok(share_of_set(st, named, power as u32, set))
 }
 
-pub(crate) fn share_asked(s: &[u8], mask: u64, power: u64, set: u64) -> Amount
-    ensures { amount_of result ≡ share_asked s.now mask power set }
+pub(crate) fn share_asked(s: &[u8], mask: u64, power: u64, set: u64) -> Result<u64, Refusal>
+    ensures { result_of result ≡ share_asked s.now mask power set }
 {
     let reading = read_station(s);
     let verdict = reading.verdict;
     let st = reading.station;
     match verdict {
-        Verdict::Accepted => share_of_station(st, mask, power, set),
-        Verdict::Refused(refusal) => Amount::Refused(refusal),
+        Ok(()) => share_of_station(st, mask, power, set),
+        Err(refusal) => Err(refusal),
     }
 }

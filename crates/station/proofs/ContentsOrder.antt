@@ -1,4 +1,5 @@
 -- The checks of a file one after the other: size, table of contents, values. Assumes nothing.
+use Rattle.std.specs.Prelude.{Ok, Err, Result}
 use Prim.Native.Nat.{ℕ, ◌+◌, ◌*◌, ◌≤◌, ◌<◌}
 use mathlib.Core.Path.{◌≡◌, sym, ap, ◌∙◌}
 use mathlib.Core.Bool.{true, false}
@@ -8,10 +9,8 @@ use lib.Dec.{eqb}
 use lib.ListN.{length}
 use borrow.Author.Tests.{lt-leb}
 use Rattle.rules.specs.declared.answers.Refusal.{Refusal}
-use Rattle.rules.specs.declared.answers.Verdict.{Verdict}
-use Rattle.rules.specs.declared.answers.Verdict.TheVariants.{Accepted, Refused}
 use Rattle.rules.specs.Numbers.{within}
-use Rattle.rules.specs.Answers.{accepted, refused, judged, value_or, verdict_of}
+use Rattle.rules.specs.Answers.{accepted, refused, judged, value_or, result_of}
 use Rattle.rules.specs.StationRecord.{no_station, values_right}
 use Rattle.rules.proofs.Tests.{within-fact, fact-within, over-range}
 use Rattle.rules.proofs.StationRead.{contents}
@@ -73,19 +72,19 @@ contents-fit s h =
 
 -- ---- the whole file: its contents, then its values
 
-module _ (s : List ℕ) (v : Verdict) (contents-are : verdict_of v ≡ contents_right s) where
-  pub contents-refused : (r : Refusal) → v ≡ Refused r → (verdict_of v ≡ judged (station_file s)) × (no_station ≡ value_or no_station (station_file s))
+module _ (s : List ℕ) (v : Result (Unit {0}) Refusal) (contents-are : result_of v ≡ contents_right s) where
+  pub contents-refused : (r : Refusal) → v ≡ Err r → (result_of v ≡ judged (station_file s)) × (no_station ≡ value_or no_station (station_file s))
   unfolding station_file
   contents-refused r e = (rw (← contents-are, e), rw (← contents-are, e))
 
-  pub contents-passed : v ≡ Accepted → contents_right s ≡ accepted tt
-  contents-passed e = sym contents-are ∙ ap verdict_of e
+  pub contents-passed : v ≡ Ok tt → contents_right s ≡ accepted tt
+  contents-passed e = sym contents-are ∙ ap result_of e
 
-  module _ (passed : v ≡ Accepted) (w : Verdict) (values-are : verdict_of w ≡ values_right (record_of s)) where
-    pub values-refused : (r : Refusal) → w ≡ Refused r → (verdict_of w ≡ judged (station_file s)) × (no_station ≡ value_or no_station (station_file s))
+  module _ (passed : v ≡ (Ok tt)) (w : Result (Unit {0}) Refusal) (values-are : result_of w ≡ values_right (record_of s)) where
+    pub values-refused : (r : Refusal) → w ≡ Err r → (result_of w ≡ judged (station_file s)) × (no_station ≡ value_or no_station (station_file s))
     unfolding station_file
     values-refused r e = (rw (contents-passed passed, ← values-are, e), rw (contents-passed passed, ← values-are, e))
 
-    pub file-read : w ≡ Accepted → (accepted tt ≡ judged (station_file s)) × (record_of s ≡ value_or no_station (station_file s))
+    pub file-read : w ≡ Ok tt → (accepted tt ≡ judged (station_file s)) × (record_of s ≡ value_or no_station (station_file s))
     unfolding station_file
     file-read e = (rw (contents-passed passed, ← values-are, e), rw (contents-passed passed, ← values-are, e))

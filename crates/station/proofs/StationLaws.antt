@@ -1,4 +1,5 @@
 -- The station file as it arrives: the bytes held and those that follow, and a file that is too long. Assumes nothing.
+use Rattle.std.specs.Prelude.{Result}
 use Prim.Native.Nat.{ℕ, ◌+◌, ◌≤◌, ◌<◌, min}
 use mathlib.Core.Path.{◌≡◌, refl, sym, ap, ◌∙◌}
 use mathlib.Core.Bool.{true}
@@ -9,13 +10,13 @@ use borrow.Author.Tests.{leb-true}
 use lib.ListN.{length, take, get_or, set, length-append, length-take}
 use lib.Seq.{take-length, paste, paste-suc, take-paste}
 use Rattle.rules.specs.declared.station.Station.{Station}
-use Rattle.rules.specs.declared.answers.Verdict.{Verdict}
-use Rattle.rules.specs.Answers.{Answer, accepted, refused, judged, verdict_of}
+use Rattle.rules.specs.Answers.{Answer, accepted, refused, judged, result_of}
 use Rattle.rules.specs.StationFile.{station_file}
 use Rattle.station.specs.declared.chunks.StationBytes.{StationBytes}
 use Rattle.station.specs.Stations.{station_with, too_long, is_refused}
 use Rattle.rules.proofs.Tables.{take-least}
 use Rattle.station.proofs.ContentsOrder.{too_long_lem}
+use Rattle.rules.specs.declared.answers.Refusal.{Refusal}
 
 -- "a file has 165 to 676 bytes": one with more is refused with 1, whatever its bytes are
 over-most : (s : List ℕ) → 676 < length s → station_file s ≡ refused 1 0
@@ -67,5 +68,5 @@ judged-refused : (a : Answer Station) → is_refused (judged a) ≡ is_refused a
 judged-refused (accepted st) = refl
 judged-refused (refused number place) = refl
 
-pub refused-reading : (v : Verdict) (a : Answer Station) → verdict_of v ≡ judged a → is_refused (verdict_of v) ≡ is_refused a
+pub refused-reading : (v : Result (Unit {0}) Refusal) (a : Answer Station) → result_of v ≡ judged a → is_refused (result_of v) ≡ is_refused a
 refused-reading v a e = ap is_refused e ∙ judged-refused a

@@ -1,12 +1,11 @@
 // The station file as it arrives in chunks.
 ghost use Rattle.std.specs.Prelude.{◌≡◌, true, List, [], ◌++◌, ℕ};
 ghost use Rattle.rules.specs.StationFile.{station_file};
-ghost use Rattle.rules.specs.Answers.{judged, value_or, verdict_of};
+ghost use Rattle.rules.specs.Answers.{judged, value_or, result_of};
 ghost use Rattle.rules.specs.StationRecord.{no_station};
 ghost use Rattle.station.specs.Stations.{station_with, too_long, is_refused};
 
 use crate::reader::{Reading, read_station};
-use rules::answers::Verdict;
 use station_fields::layout;
 use words::arithmetic::lesser;
 
@@ -56,7 +55,7 @@ pub fn more_station(file: StationBytes, chunk: &[u8]) -> StationBytes
 
 // The file has ended: its record, or its refusal.
 pub fn station_of(file: StationBytes) -> Reading
-    ensures { (verdict_of result.verdict ≡ judged (station_with file [])) × (result.station ≡ value_or no_station (station_with file [])) }
+    ensures { (result_of result.verdict ≡ judged (station_with file [])) × (result.station ≡ value_or no_station (station_with file [])) }
 {
     let bytes = file.bytes;
     let len = lesser(file.len, MOST_HELD);
@@ -70,8 +69,8 @@ pub fn is_station_refused(file: StationBytes) -> bool
     let reading = station_of(file);
     let verdict = reading.verdict;
     match verdict {
-        Verdict::Accepted => false,
-        Verdict::Refused(_) => true,
+        Ok(()) => false,
+        Err(_) => true,
     }
 }
 

@@ -1,16 +1,12 @@
 // 1, 2, 3: the size of a file and its table of contents.
 ghost use Rattle.std.specs.Prelude.{◌≡◌, ◌≤◌, ◌<◌, length};
-ghost use Rattle.rules.specs.Answers.{verdict_of};
+ghost use Rattle.rules.specs.Answers.{result_of};
 ghost use Rattle.rules.specs.StationFile.{count_at, entry_right, contents_right};
 
 use crate::numbers::number_at;
-use rules::answers::{Refusal, Verdict};
+use rules::answers::Refusal;
 use station_fields::layout;
-use station_fields::layout::{
-    BATTERY_AT, BATTERY_ENTRY, BATTERY_PART, CONFIGURATION_SIZE, CONFIGURATIONS_ENTRY,
-    CONFIGURATIONS_PART, CONTROL_AT, CONTROL_ENTRY, CONTROL_PART, SET_SIZE, SETS_AT, SETS_ENTRY,
-    SETS_PART,
-};
+use station_fields::layout::{BATTERY_AT, BATTERY_ENTRY, BATTERY_PART, CONFIGURATION_SIZE, CONFIGURATIONS_ENTRY, CONFIGURATIONS_PART, CONTROL_AT, CONTROL_ENTRY, CONTROL_PART, SET_SIZE, SETS_AT, SETS_ENTRY, SETS_PART};
 
 // The count that the entry at this place has.
 pub(crate) fn count_at(s: &[u8], place: usize) -> u64
@@ -36,31 +32,31 @@ fn entry_right(s: &[u8], place: usize, part: layout::Part, offset: usize) -> boo
         & (number_at(s, at + layout::ENTRY_OFFSET, layout::ENTRY_OFFSET_WIDTH) == offset as u64)
 }
 
-pub(crate) fn contents_right(s: &[u8]) -> Verdict
-    ensures { verdict_of result ≡ contents_right s.now }
+pub(crate) fn contents_right(s: &[u8]) -> Result<(), Refusal>
+    ensures { result_of result ≡ contents_right s.now }
 {
     let size = s.len();
     if size < layout::LEAST_FILE {
-        return Verdict::Refused(Refusal::StationSize);
+        return Err(Refusal::StationSize);
     }
     if layout::MOST_FILE < size {
-        return Verdict::Refused(Refusal::StationSize);
+        return Err(Refusal::StationSize);
     }
     if !entry_right(s, CONTROL_ENTRY, CONTROL_PART, CONTROL_AT) {
-        return Verdict::Refused(Refusal::ContentsEntry(1));
+        return Err(Refusal::ContentsEntry(1));
     }
     if !entry_right(s, BATTERY_ENTRY, BATTERY_PART, BATTERY_AT) {
-        return Verdict::Refused(Refusal::ContentsEntry(2));
+        return Err(Refusal::ContentsEntry(2));
     }
     if !entry_right(s, SETS_ENTRY, SETS_PART, SETS_AT) {
-        return Verdict::Refused(Refusal::ContentsEntry(3));
+        return Err(Refusal::ContentsEntry(3));
     }
     let configs_at = SETS_AT + SET_SIZE * count_at(s, SETS_ENTRY) as usize;
     if !entry_right(s, CONFIGURATIONS_ENTRY, CONFIGURATIONS_PART, configs_at) {
-        return Verdict::Refused(Refusal::ContentsEntry(4));
+        return Err(Refusal::ContentsEntry(4));
     }
     if size != configs_at + CONFIGURATION_SIZE * count_at(s, CONFIGURATIONS_ENTRY) as usize {
-        return Verdict::Refused(Refusal::ContentsSize);
+        return Err(Refusal::ContentsSize);
     }
-    Verdict::Accepted
+    Ok(())
 }

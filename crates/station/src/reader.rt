@@ -1,12 +1,12 @@
 // The station file: its bytes become a record, or the first refusal.
 ghost use Rattle.std.specs.Prelude.{◌≡◌};
-ghost use Rattle.rules.specs.Answers.{judged, value_or, verdict_of};
+ghost use Rattle.rules.specs.Answers.{judged, value_or, result_of};
 ghost use Rattle.rules.specs.StationRecord.{no_station};
 ghost use Rattle.rules.specs.StationFile.{station_file};
 
+use rules::answers::Refusal;
 use crate::bodies::{no_set, record_of};
 use crate::contents::contents_right;
-use rules::answers::Verdict;
 use rules::station::{Battery, Control, Station};
 use station_fields::ranges;
 use station_record::values::values_right;
@@ -14,7 +14,7 @@ use station_record::values::values_right;
 // The verdict on a file, and the record that it gives; where it is refused, the record of zeros.
 #[derive(Clone, Copy)]
 pub struct Reading {
-    pub verdict: Verdict,
+    pub verdict: Result<(), Refusal>,
     pub station: Station,
 }
 
@@ -50,7 +50,7 @@ pub fn no_station() -> Station
     }
 }
 
-fn refused(verdict: Verdict) -> Reading
+fn refused(verdict: Result<(), Refusal>) -> Reading
     ensures { (result.verdict ≡ verdict) × (result.station ≡ no_station) }
 {
     let station = no_station();
@@ -58,20 +58,20 @@ fn refused(verdict: Verdict) -> Reading
 }
 
 pub fn read_station(s: &[u8]) -> Reading
-    ensures verdict_value { verdict_of result.verdict ≡ judged (station_file s.now) }
+    ensures verdict_value { result_of result.verdict ≡ judged (station_file s.now) }
     ensures station_value { result.station ≡ value_or no_station (station_file s.now) }
 {
     let contents = contents_right(s);
-    let Verdict::Accepted = contents else {
+    let Ok(()) = contents else {
         return refused(contents);
     };
     let station = record_of(s);
     let values = values_right(station);
-    let Verdict::Accepted = values else {
+    let Ok(()) = values else {
         return refused(values);
     };
     Reading {
-        verdict: Verdict::Accepted,
+        verdict: Ok(()),
         station,
     }
 }

@@ -1,4 +1,5 @@
 -- The checks of a record one after the other, as the code meets them: sets and configurations, all values, and those of 25. Assumes nothing.
+use Rattle.std.specs.Prelude.{Ok, Err, Result}
 use Prim.Native.Nat.{ℕ, suc, ◌+◌, ◌≤◌, ◌<◌}
 use mathlib.Core.Path.{◌≡◌, sym, ap, ◌∙◌}
 use mathlib.Core.Bool.{Bool, true, false, ◌&&◌}
@@ -7,12 +8,10 @@ use native.Mathlib.Numerals.{add-one}
 use lib.ListN.{length, take, drop, get_or, drop_of_length-le}
 use lib.Seq.{drop-cons, get_or-take, length-take-le}
 use Rattle.rules.specs.declared.answers.Refusal.{Refusal}
-use Rattle.rules.specs.declared.answers.Verdict.{Verdict}
-use Rattle.rules.specs.declared.answers.Verdict.TheVariants.{Accepted, Refused}
 use Rattle.rules.specs.declared.station.GenSet.{GenSet}
 use Rattle.rules.specs.declared.station.Station.{Station}
 use Rattle.rules.specs.Numbers.{within, every, all_zero}
-use Rattle.rules.specs.Answers.{Answer, accepted, refused, need, verdict_of, ◌>>◌}
+use Rattle.rules.specs.Answers.{Answer, accepted, refused, need, result_of, ◌>>◌}
 use Rattle.rules.specs.StationRecord.{past_end, set_at, control_right, battery_right, set_right, pairs_right, sets_right, configuration_right, configurations_right, values_right, set_unused, some_file_gives}
 
 -- the elements from place i on, of the first n: the one there, and the rest
@@ -72,12 +71,12 @@ module _ (st : Station) where
     unfolding values_right
     battery-next e = rw (control, e)
 
-    module _ (battery : battery_right st.battery ≡ true) (v : Verdict) (sets : verdict_of v ≡ sets_right 0 (take st.setcount st.sets)) where
-      pub sets-next : (r : Refusal) → v ≡ Refused r → verdict_of v ≡ values_right st
+    module _ (battery : battery_right st.battery ≡ true) (v : Result (Unit {0}) Refusal) (sets : result_of v ≡ sets_right 0 (take st.setcount st.sets)) where
+      pub sets-next : (r : Refusal) → v ≡ Err r → result_of v ≡ values_right st
       unfolding values_right
       sets-next r e = rw (control, battery, ← sets, e)
 
-      pub configurations-last : v ≡ Accepted → configurations_right st.setcount 0 (take st.configcount st.configs) ≡ values_right st
+      pub configurations-last : v ≡ Ok tt → configurations_right st.setcount 0 (take st.configcount st.configs) ≡ values_right st
       unfolding values_right
       configurations-last e = rw (control, battery, ← sets, e)
 
@@ -88,12 +87,12 @@ module _ (st : Station) where
   unfolding some_file_gives
   counts-first e = rw e
 
-  module _ (counts : within 1 8 st.setcount && within 1 64 st.configcount ≡ true) (v : Verdict) (values : verdict_of v ≡ values_right st) where
-    pub values-next : (r : Refusal) → v ≡ Refused r → false ≡ some_file_gives st
+  module _ (counts : within 1 8 st.setcount && within 1 64 st.configcount ≡ true) (v : Result (Unit {0}) Refusal) (values : result_of v ≡ values_right st) where
+    pub values-next : (r : Refusal) → v ≡ Err r → false ≡ some_file_gives st
     unfolding some_file_gives
     values-next r e = rw (counts, ← values, e)
 
-    pub unused-last : (sets configs : Bool) → v ≡ Accepted → sets ≡ every set_unused (drop st.setcount st.sets) → configs ≡ all_zero (drop st.configcount st.configs)
+    pub unused-last : (sets configs : Bool) → v ≡ Ok tt → sets ≡ every set_unused (drop st.setcount st.sets) → configs ≡ all_zero (drop st.configcount st.configs)
         → sets && configs ≡ some_file_gives st
     unfolding some_file_gives
     unused-last sets configs e p q = rw (counts, ← values, e, p, q)

@@ -4,7 +4,6 @@ ghost use Rattle.rules.specs.Numbers.{every, all_zero};
 ghost use Rattle.rules.specs.StationRecord.{set_unused, some_file_gives};
 
 use crate::values::values_right;
-use rules::answers::Verdict;
 use rules::station::{GenSet, Station};
 use station_fields::{layout, ranges};
 
@@ -72,7 +71,7 @@ pub fn some_file_gives(st: Station) -> bool
         return false;
     }
     let verdict = values_right(st);
-    let Verdict::Accepted = verdict else {
+    let Ok(()) = verdict else {
         return false;
     };
     let sets = st.sets;

@@ -1,10 +1,10 @@
 // Which values a station may have: refusals 4 to 8, in the paper's order.
 ghost use Rattle.std.specs.Prelude.{◌≡◌, suc, ◌≤◌, take, get_or};
 ghost use Rattle.rules.specs.Numbers.{all_to};
-ghost use Rattle.rules.specs.Answers.{verdict_of};
+ghost use Rattle.rules.specs.Answers.{result_of};
 ghost use Rattle.rules.specs.StationRecord.{control_right, battery_right, service_right, set_right, pair_right, rises, pairs_right, configuration_right, sets_right, configurations_right, values_right};
 
-use rules::answers::{Refusal, Verdict};
+use rules::answers::Refusal;
 use rules::station::{Battery, Control, GenSet, Station};
 use station_fields::{layout, ranges};
 use words::arithmetic::lesser;
@@ -121,8 +121,8 @@ fn pairs_right(g: GenSet) -> bool
 }
 
 // 6 and 7 of the first `setcount` sets, set by set; a count past the last set counts to it.
-fn sets_right(sets: [GenSet; ranges::SETS_MOST], setcount: usize) -> Verdict
-    ensures { verdict_of result ≡ sets_right 0 (take setcount sets) }
+fn sets_right(sets: [GenSet; ranges::SETS_MOST], setcount: usize) -> Result<(), Refusal>
+    ensures { result_of result ≡ sets_right 0 (take setcount sets) }
 {
     let count = lesser(setcount, ranges::SETS_MOST);
     let mut i: usize = 0;
@@ -132,13 +132,13 @@ fn sets_right(sets: [GenSet; ranges::SETS_MOST], setcount: usize) -> Verdict
         let numbers = set_right(g);
         let pairs = pairs_right(g);
         if !numbers {
-            return Verdict::Refused(Refusal::SetNumber(i as u32));
+            return Err(Refusal::SetNumber(i as u32));
         }
         if !pairs {
-            return Verdict::Refused(Refusal::SetPairs(i as u32));
+            return Err(Refusal::SetPairs(i as u32));
         }
     }
-    Verdict::Accepted
+    Ok(())
 }
 
 fn configuration_right(setcount: usize, mask: u8) -> bool
@@ -152,8 +152,8 @@ fn configurations_right(
     configs: [u8; ranges::CONFIGURATIONS_MOST],
     configcount: usize,
     setcount: usize,
-) -> Verdict
-    ensures { verdict_of result ≡ configurations_right setcount 0 (take configcount configs) }
+) -> Result<(), Refusal>
+    ensures { result_of result ≡ configurations_right setcount 0 (take configcount configs) }
 {
     let count = lesser(configcount, ranges::CONFIGURATIONS_MOST);
     let mut i: usize = 0;
@@ -161,28 +161,28 @@ fn configurations_right(
         let mask = configs[i];
         i += 1;
         if !configuration_right(setcount, mask) {
-            return Verdict::Refused(Refusal::ConfigurationMask(i as u32));
+            return Err(Refusal::ConfigurationMask(i as u32));
         }
     }
-    Verdict::Accepted
+    Ok(())
 }
 
 // 4 to 8, in their order, of any record.
-pub fn values_right(st: Station) -> Verdict
-    ensures { verdict_of result ≡ values_right st }
+pub fn values_right(st: Station) -> Result<(), Refusal>
+    ensures { result_of result ≡ values_right st }
 {
     let setcount = st.setcount;
     let control = st.control;
     if !control_right(setcount, control) {
-        return Verdict::Refused(Refusal::ControlValue);
+        return Err(Refusal::ControlValue);
     }
     let battery = st.battery;
     if !battery_right(battery) {
-        return Verdict::Refused(Refusal::BatteryValue);
+        return Err(Refusal::BatteryValue);
     }
     let sets = st.sets;
     let verdict = sets_right(sets, setcount);
-    let Verdict::Accepted = verdict else {
+    let Ok(()) = verdict else {
         return verdict;
     };
     let configs = st.configs;

@@ -1,9 +1,8 @@
 -- Document 01, the eleven steps, of whatever station, table of capacities, record and inputs are handed in: capacities, counts and sums
 -- as their types hold them. Where the rules admit the second and the table is the station's, they are the rules' own (proofs/Ruled.antt).
-use Rattle.std.specs.Prelude.{ℕ, ◌+◌, min, ◌≡◌, List, get_or}
+use Rattle.std.specs.Prelude.{ℕ, ◌+◌, min, ◌≡◌, List, get_or, Some}
 use Rattle.std.specs.Int.Count.{ones}
 use Rattle.rules.specs.declared.station.Station.{Station}
-use Rattle.rules.specs.declared.run.Held.TheVariants.{At}
 use Rattle.rules.specs.declared.run.Inputs.{Inputs}
 use Rattle.rules.specs.declared.run.Row.{Row}
 use Rattle.rules.specs.declared.run.Run.{Run}
@@ -53,7 +52,7 @@ record_in st caps r x w =
       since = since_after (call_in st caps r x w) r.called r.since r.done;
       called = call_in st caps r x w;
       store = store_now st r w;
-      setpoint = At (held_now st r x w);
+      setpoint = Some (held_now st r x w);
       sets = commanded_in st caps r x w;
       decided = amounts_in st r x w;
       totals = plus_in r.totals w;

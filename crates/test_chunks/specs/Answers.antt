@@ -1,8 +1,7 @@
 -- What the tests are handed: a file's span, and one of its rows, as plain numbers.
-use Rattle.std.specs.Prelude.{ℕ, zero, suc, List, [], ◌∷◌}
+use Rattle.std.specs.Prelude.{ℕ, zero, suc, List, [], ◌∷◌, Some, None, Option}
 use Rattle.rules.specs.declared.samples.Sample.{Sample}
 use Rattle.rules.specs.Answers.{Answer, accepted, refused}
-use Rattle.sheet_stages.specs.declared.stage.Found.{Found}
 use Rattle.samples.specs.declared.check.Span.{Span}
 use Rattle.sheet_stages.specs.ToCome.{RowsRead}
 use Rattle.test_chunks.specs.declared.ChunkedAnswer.{ChunkedAnswer}
@@ -14,14 +13,14 @@ span_answer (accepted s) = record { number = 0; place = 0; rows = s.rows; last =
 span_answer (refused number place) = record { number = number; place = place; rows = 0; last = 0 }
 
 -- the row with an index, counted from 0
-unfoldable pub row_at : ℕ → List Sample → Found
-row_at k [] = Found.Nothing
-row_at zero (x ∷ rows) = Found.Row x
+unfoldable pub row_at : ℕ → List Sample → Option Sample
+row_at k [] = None
+row_at zero (x ∷ rows) = Some x
 row_at (suc k) (x ∷ rows) = row_at k rows
 
-abbrev pub found_answer : Found → ChunkedRow
-found_answer (Found.Row x) = record { found = 1; at = x.at; load = x.load; solar = x.solar; sheddable = x.sheddable }
-found_answer Found.Nothing = record { found = 0; at = 0; load = 0; solar = 0; sheddable = 0 }
+abbrev pub found_answer : Option Sample → ChunkedRow
+found_answer (Some x) = record { found = 1; at = x.at; load = x.load; solar = x.solar; sheddable = x.sheddable }
+found_answer None = record { found = 0; at = 0; load = 0; solar = 0; sheddable = 0 }
 
 -- the rows of a refused file are those of the lines before the refused one
 abbrev pub row_answer : ℕ → RowsRead → ChunkedRow

@@ -1,17 +1,18 @@
 #![tactic(auto)]
 // The streamed check and the streamed reader at any chunk size, called from C by the tests. No answer depends on the size.
 ghost use Rattle.std.specs.Prelude.{◌≡◌, ◌≤◌, ◌<◌, [], length};
+ghost use Rattle.rules.specs.Answers.{result_of};
 ghost use Rattle.sheet_stages.specs.ToCome.{placed, RowsRead, file_rows, row_first, all_read};
 ghost use Rattle.sample_rows.specs.Streamed.{yet_to_come};
-ghost use Rattle.samples.specs.Streamed.{sheet_span, checked_of, checked_with};
+ghost use Rattle.samples.specs.Streamed.{sheet_span, checked_with};
 ghost use Rattle.test_chunks.specs.Answers.{span_answer, row_answer, found_answer};
 ghost use Rattle.test_chunks.specs.Seeking.{chunk_end, sought_in};
 ghost use Rattle.test_chunks.specs.declared.Sought.{Sought};
 
+use rules::answers::Refusal;
 use rules::samples::Sample;
-use sample_rows::reader::{Ending, SampleReader, end, pull, reader};
-use samples::check::{Checked, SampleCheck, check, feed, finish};
-use sheet_stages::stage::Found;
+use sample_rows::reader::{SampleReader, end, pull, reader};
+use samples::check::{SampleCheck, Span, check, feed, finish};
 use words::refusals::number_and_place;
 
 // `number` is 0 where the file is accepted; then `rows` and `last` are its span.
@@ -64,17 +65,17 @@ fn fed_in_chunks(file: &[u8], size: u64) -> SampleCheck
     fed
 }
 
-fn span_answer(checked: Checked) -> ChunkedAnswer
-    ensures { result ≡ span_answer (checked_of checked) }
+fn span_answer(checked: Result<Span, Refusal>) -> ChunkedAnswer
+    ensures { result ≡ span_answer (result_of checked) }
 {
     match checked {
-        Checked::Accepted(span) => ChunkedAnswer {
+        Ok(span) => ChunkedAnswer {
             number: 0,
             place: 0,
             rows: span.rows,
             last: span.last as u64,
         },
-        Checked::Refused(refusal) => {
+        Err(refusal) => {
             let told = number_and_place(refusal);
             ChunkedAnswer {
                 number: told.0,
@@ -94,18 +95,18 @@ pub extern "C" fn chunked_check(samples: &[u8], size: u64) -> ChunkedAnswer
     span_answer(finish(fed_in_chunks(samples, size)))
 }
 
-fn row_answer(found: Found) -> ChunkedRow
+fn row_answer(found: Option<Sample>) -> ChunkedRow
     ensures { result ≡ found_answer found }
 {
     match found {
-        Found::Row(row) => ChunkedRow {
+        Some(row) => ChunkedRow {
             found: 1,
             at: row.at as u64,
             load: row.load as u64,
             solar: row.solar as u64,
             sheddable: row.sheddable as u64,
         },
-        Found::Nothing => ChunkedRow {
+        None => ChunkedRow {
             found: 0,
             at: 0,
             load: 0,
@@ -123,12 +124,12 @@ enum Sought {
 }
 
 // One row less to pass over; the row that is asked for stays.
-fn passed(sought: Sought, found: Found) -> Sought
+fn passed(sought: Sought, found: Option<Sample>) -> Sought
     ensures { (rows : RowsRead) → sought_in sought (row_first found rows) ≡ sought_in result rows }
 {
     match found {
-        Found::Nothing => sought,
-        Found::Row(row) => match sought {
+        None => sought,
+        Some(row) => match sought {
             Sought::Came(came) => Sought::Came(came),
             Sought::After(before) => {
                 if before == 0 {
@@ -140,28 +141,28 @@ fn passed(sought: Sought, found: Found) -> Sought
     }
 }
 
-fn row_that_came(sought: Sought) -> Found
+fn row_that_came(sought: Sought) -> Option<Sample>
     ensures { result ≡ sought_in sought (all_read []) }
 {
     match sought {
-        Sought::Came(row) => Found::Row(row),
-        Sought::After(_) => Found::Nothing,
+        Sought::Came(row) => Some(row),
+        Sought::After(_) => None,
     }
 }
 
 // The end of the file, whose last line may give the row.
-fn row_at_end(reader: SampleReader, sought: Sought) -> Found
+fn row_at_end(reader: SampleReader, sought: Sought) -> Option<Sample>
     ensures { result ≡ sought_in sought (yet_to_come reader []) }
 {
     match end(reader) {
-        Ending::LastRow(row) => row_that_came(passed(sought, Found::Row(row))),
-        Ending::NoRow => row_that_came(sought),
-        Ending::Refused(_) => row_that_came(sought),
+        Ok(Some(row)) => row_that_came(passed(sought, Some(row))),
+        Ok(None) => row_that_came(sought),
+        Err(_) => row_that_came(sought),
     }
 }
 
 // All rows of the file, out of one chunk after the other; a chunk is left as soon as its end is reached, so that every pull goes ahead.
-fn row_in_chunks(file: &[u8], size: u64, row: u64) -> Found
+fn row_in_chunks(file: &[u8], size: u64, row: u64) -> Option<Sample>
     ensures { result ≡ sought_in (Sought.After row) (file_rows file.now) }
 {
     let mut reading = reader();

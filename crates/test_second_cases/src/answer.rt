@@ -1,8 +1,8 @@
 // The answer to a case: what the second answers and the record that it hands back, as numbers, and the row in the lent buffer.
+use rules::answers::Refusal;
 use crate::record_case::{inputs_in, put_record, run_in};
 use crate::station_case::station_in;
 use dispatch::second::second;
-use rules::answers::Outcome;
 use words::arithmetic::{lesser, wide};
 use words::refusals::number_and_place;
 
@@ -21,12 +21,12 @@ fn fill(lent: &mut [u8]) {
 }
 
 // 0 and the row's length, or 1, the refusal's number and its place.
-fn put_outcome(answer: &mut [u64; 142], outcome: Outcome) {
+fn put_outcome(answer: &mut [u64; 142], outcome: Result<usize, Refusal>) {
     match outcome {
-        Outcome::Row(size) => {
+        Ok(size) => {
             answer[1] = size as u64;
         }
-        Outcome::Refused(refusal) => {
+        Err(refusal) => {
             let told = number_and_place(refusal);
             answer[0] = 1;
             answer[1] = told.0;

@@ -2,7 +2,7 @@
 ghost use Rattle.std.specs.Prelude.{◌+◌, ◌≤◌};
 
 use crate::held::{bits_of, float_of};
-use rules::run::{Held, Inputs, Mode, Run, SetState, Totals};
+use rules::run::{Inputs, Mode, Run, SetState, Totals};
 use words::arithmetic::wide;
 
 // Where a case has them: the record, its 8 sets of 8 numbers, its totals, its 60 amounts, and the inputs.
@@ -76,11 +76,11 @@ fn decided_in(numbers: &[u32; 351]) -> [u32; 60] {
     decided
 }
 
-fn held_in(tag: u32, bits: u64) -> Held {
+fn held_in(tag: u32, bits: u64) -> Option<f64> {
     if tag == 0 {
-        return Held::Absent;
+        return None;
     }
-    Held::At(float_of(bits))
+    Some(float_of(bits))
 }
 
 pub(crate) fn run_in(numbers: &[u32; 351], long: &[u64; 351]) -> Run {
@@ -118,10 +118,10 @@ const TOTALS_OUT: usize = 73;
 
 const DECIDED_OUT: usize = 82;
 
-fn put_held(answer: &mut [u64; 142], held: Held) {
+fn put_held(answer: &mut [u64; 142], held: Option<f64>) {
     match held {
-        Held::Absent => {}
-        Held::At(number) => {
+        None => {}
+        Some(number) => {
             answer[RECORD_OUT + 4] = 1;
             answer[RECORD_OUT + 5] = bits_of(number);
         }

@@ -1,5 +1,5 @@
 -- Document 01, "The sample file": what reading the usual row in one pass owes. It is a row of `Rows`, and nothing is defined anew.
-use Rattle.std.specs.Prelude.{◌≡◌, ℕ, zero, suc, ◌+◌, ◌<◌, ◌≤◌, true, List, [], ◌∷◌, ◌++◌, length, drop, nat_eq, nat_le, slice_index}
+use Rattle.std.specs.Prelude.{◌≡◌, ℕ, zero, suc, ◌+◌, ◌<◌, ◌≤◌, true, List, [], ◌∷◌, ◌++◌, length, drop, nat_eq, nat_le, slice_index, Some, None, Option}
 use Rattle.byte_search.specs.Bytes.{index_of}
 use Rattle.rules.specs.declared.samples.Sample.{Sample}
 use Rattle.rules.specs.Numbers.{every}
@@ -11,7 +11,6 @@ use Rattle.sheet_headings.specs.declared.headings.Columns.{Columns}
 use Rattle.usual_rows.specs.declared.usual.DigitRun.{DigitRun}
 use Rattle.usual_rows.specs.declared.usual.CellRead.{CellRead}
 use Rattle.usual_rows.specs.declared.usual.PowersRead.{PowersRead}
-use Rattle.usual_rows.specs.declared.usual.EndRead.{EndRead}
 use Rattle.usual_rows.specs.declared.usual.Usual.{Usual}
 use Rattle.sheet.specs.declared.rows.Powers.{Powers}
 use Rattle.sheet.specs.Rows.{row_in, row_of_values}
@@ -80,9 +79,9 @@ pub record EndTaken (s : List ℕ) (at next : ℕ) : Type 0 where
   pub part : Part s at next (dropped ++ LF ∷ [])
 
 -- what is known of a line's end that was read
-abbrev pub EndOf : List ℕ → ℕ → EndRead → Type 0
-EndOf s at (EndRead.Next next) = EndTaken s at next
-EndOf s at EndRead.Other = Unit {0}
+abbrev pub EndOf : List ℕ → ℕ → Option ℕ → Type 0
+EndOf s at (Some next) = EndTaken s at next
+EndOf s at None = Unit {0}
 
 -- the line from a place on, which ends at the LF before `next`, is a row
 pub record UsualRight (columns : Columns) (s : List ℕ) (at : ℕ) (x : Sample) (next : ℕ) : Type 0 where

@@ -44,14 +44,6 @@ enum PowersRead {
     Other,
 }
 
-// What the end of a line comes to.
-#[derive(Clone, Copy)]
-enum EndRead {
-    // the place after it
-    Next(usize),
-    Other,
-}
-
 // At most so many digits from a place on, after digits whose number is `before`.
 fn digits_from(text: &[u8], at: usize, most: usize, before: u32) -> DigitRun
     requires { (at + most ≤ length text.now) × (most ≤ 9) × (before < 10 ^ (9 - most)) }
@@ -172,18 +164,18 @@ fn powers_after(text: &[u8], comma: usize) -> PowersRead
 }
 
 // The end of a line at a place: "at LF (one CR just before it is dropped)".
-fn end_from(text: &[u8], at: usize) -> EndRead
+fn end_from(text: &[u8], at: usize) -> Option<usize>
     requires { at + 2 ≤ length text.now }
     ensures { EndOf text.now at result }
 {
     let second = at + 1;
     if text[at] == b'\n' {
-        return EndRead::Next(second);
+        return Some(second);
     }
     if (text[at] == b'\r') & (text[second] == b'\n') {
-        return EndRead::Next(second + 1);
+        return Some(second + 1);
     }
-    EndRead::Other
+    None
 }
 
 // Whether each column after the time's has the name of a power.
@@ -227,7 +219,7 @@ pub fn usual_row(columns: Columns, text: &[u8], at: usize) -> Usual
     let PowersRead::Watts(cells_end, powers) = powers_after(text, time_end) else {
         return Usual::Other;
     };
-    let EndRead::Next(next) = end_from(text, cells_end) else {
+    let Some(next) = end_from(text, cells_end) else {
         return Usual::Other;
     };
     let sample = Sample {

@@ -1,8 +1,8 @@
 -- `line::rate_on` meets its contract: each answer is the one that its tests leave. Assumes nothing.
+use Rattle.std.specs.Prelude.{Ok}
 use mathlib.Core.Path.{◌≡◌, sym, ap, ◌∙◌}
 use mathlib.Core.Bool.{true}
 use Prim.Native.Nat.{ℕ, ◌/◌}
-use Rattle.gensets.specs.declared.fuel.Rate.{Rate}
 use Rattle.gensets.specs.Lines.{line_small}
 use Rattle.gensets.proofs.LineSmall.{width_small, rate-here, rate-too-far, rate-too-large}
 use Rattle.gensets.proofs.line.rate_on.Goals as goal
@@ -27,5 +27,5 @@ nonzero_div-result c = (width_small _ (small c.before.before.before)).0
 pub returns : goal.returns
 returns c =
     let s = c.before.before.before in
-    ap (λ (h : ℕ). Rate.PerHour (h / s.args.line.width)) c.height.ensures
+    ap (λ (h : ℕ). Ok (h / s.args.line.width)) c.height.ensures
     ∙ rate-here _ (small s) _ c.if-at-gt-MOST_AT.false

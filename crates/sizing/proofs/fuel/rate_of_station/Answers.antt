@@ -1,4 +1,5 @@
 -- `sizing::fuel::rate_of_station` meets its contract. Assumes nothing.
+use Rattle.std.specs.Prelude.{Ok}
 use Prim.Native.Nat.{ℕ, ◌≤◌}
 use mathlib.Core.Path.{◌≡◌, refl, sym, ap, ap₂, ◌∙◌}
 use mathlib.Core.Bool.{true, ◌&&◌}
@@ -12,7 +13,6 @@ use Rattle.rules.specs.Answers.{accepted}
 use Rattle.rules.specs.Share.{capacity}
 use Rattle.rules.specs.Sizing.{rate_of, rate_of_mask}
 use Rattle.rules.proofs.Tests.{both}
-use Rattle.gensets.specs.declared.fuel.Rate.{Rate}
 use Rattle.gensets.specs.Burned.{per_hour}
 use Rattle.gensets.specs.Leaves.{rate_told}
 use Rattle.gensets.proofs.FileCapacity.{capacity-most}
@@ -37,7 +37,7 @@ allowed c = omega (arith, c.capacity.ensures, c.if-capacity-power.false)
 -- the set's answer is the rate that the rules have for the mask
 told : (c : After-fuel_rate-rate) →
     let a = c.args in
-    c.fuel_rate-rate.result ≡ Rate.PerHour (rate_of_mask a.st a.mask a.power)
+    c.fuel_rate-rate.result ≡ Ok (rate_of_mask a.st a.mask a.power)
 unfolding set_at past_end
 told c =
     let a = c.args in

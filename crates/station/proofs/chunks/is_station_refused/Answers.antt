@@ -1,18 +1,19 @@
 -- `station::chunks::is_station_refused` meets its contract. Assumes nothing.
+use Rattle.std.specs.Prelude.{Result}
 use mathlib.Core.Path.{sym, ap, ◌∙◌}
 use mathlib.Core.List.{[]}
-use Rattle.rules.specs.declared.answers.Verdict.{Verdict}
-use Rattle.rules.specs.Answers.{verdict_of}
+use Rattle.rules.specs.Answers.{result_of}
 use Rattle.station.specs.Stations.{station_with, is_refused}
 use Rattle.station.proofs.StationLaws.{refused-reading}
 use Rattle.station.proofs.chunks.is_station_refused.Goals as goal
+use Rattle.rules.specs.declared.answers.Refusal.{Refusal}
 
 pub returns-in-Accepted : goal.returns-in-Accepted
 returns-in-Accepted c =
     let file = c.args.file in
-    ap (λ (v : Verdict). is_refused (verdict_of v)) (sym c.in-Accepted.is) ∙ refused-reading c.station_of-reading.result.verdict (station_with file []) c.station_of-reading.ensures.0
+    ap (λ (v : Result (Unit {0}) Refusal). is_refused (result_of v)) (sym c.in-Accepted.is) ∙ refused-reading c.station_of-reading.result.verdict (station_with file []) c.station_of-reading.ensures.0
 
 pub returns-in-Refused : goal.returns-in-Refused
 returns-in-Refused c =
     let file = c.args.file in
-    ap (λ (v : Verdict). is_refused (verdict_of v)) (sym c.in-Refused.is) ∙ refused-reading c.station_of-reading.result.verdict (station_with file []) c.station_of-reading.ensures.0
+    ap (λ (v : Result (Unit {0}) Refusal). is_refused (result_of v)) (sym c.in-Refused.is) ∙ refused-reading c.station_of-reading.result.verdict (station_with file []) c.station_of-reading.ensures.0

@@ -1,10 +1,10 @@
 -- `usual_rows::usual::usual_row` meets its contract. Assumes nothing.
+use Rattle.std.specs.Prelude.{Option}
 use Rattle.std.proofs.Common.{◌+◌, ◌≤◌, length, refl, subst, arith}
 use Rattle.rules.specs.SampleFile.{time_cell}
 use Rattle.usual_rows.specs.declared.usual.Usual.{Usual}
 use Rattle.usual_rows.specs.declared.usual.CellRead.{CellRead}
 use Rattle.usual_rows.specs.declared.usual.PowersRead.{PowersRead}
-use Rattle.usual_rows.specs.declared.usual.EndRead.{EndRead}
 use Rattle.usual_rows.specs.Usual.{TimeTaken, EndTaken, TimeOf, PowersOf, EndOf}
 use Rattle.sheet.proofs.RowLaws.{row-whole, under-headings}
 use Rattle.usual_rows.proofs.UsualLaws.{cell-end}
@@ -23,7 +23,7 @@ powers-read : (c : In-Watts) → PowersOf c.args.text.now c.in-Number.time_end (
 powers-read c = subst (λ (r : PowersRead). PowersOf c.args.text.now c.in-Number.time_end r) c.in-Watts.is c.powers_after.ensures
 
 end_read : (c : In-Next) → EndTaken c.args.text.now c.in-Watts.cells_end c.in-Next.next
-end_read c = subst (λ (r : EndRead). EndOf c.args.text.now c.in-Watts.cells_end r) c.in-Next.is c.end_from.ensures
+end_read c = subst (λ (r : Option ℕ). EndOf c.args.text.now c.in-Watts.cells_end r) c.in-Next.is c.end_from.ensures
 
 time-ends : (c : In-Number) → c.in-Number.time_end ≤ c.args.at + 9
 time-ends c = cell-end time_cell 9 316223999 c.args.text.now c.args.at c.in-Number.time_end c.in-Number.time (time-read c)
