@@ -11,7 +11,7 @@ use Rattle.rules.specs.declared.station.Station.{Station}
 use Rattle.rules.specs.declared.run.Inputs.{Inputs}
 use Rattle.rules.specs.declared.run.Run.{Run}
 use Rattle.rules.specs.declared.run.SetState.{SetState}
-use Rattle.rules.specs.declared.run.Totals.{Totals}
+use Rattle.rules.specs.Quantities.{Totals}
 use Rattle.rules.specs.Numbers.{has}
 use Rattle.rules.specs.StationRecord.{set_at}
 use Rattle.rules.specs.Share.{share}

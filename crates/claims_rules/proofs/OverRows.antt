@@ -13,7 +13,7 @@ use Rattle.rules.specs.declared.run.Mode.{Mode}
 use Rattle.rules.specs.declared.run.Mode.TheVariants.{Off, On}
 use Rattle.rules.specs.declared.run.Run.{Run}
 use Rattle.rules.specs.declared.run.SetState.{SetState}
-use Rattle.rules.specs.declared.run.Totals.{Totals}
+use Rattle.rules.specs.Quantities.{Totals}
 use Rattle.rules.specs.Numbers.{has, tab}
 use Rattle.rules.specs.StationRecord.{set_at, set_right, pairs_right, some_file_gives}
 use Rattle.rules.specs.Fuel.{fuel_rate, exact_curve, exact_sum, fuel_sum}

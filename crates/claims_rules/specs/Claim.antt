@@ -5,7 +5,7 @@ use Rattle.rules.specs.declared.station.Station.{Station}
 use Rattle.rules.specs.declared.run.Inputs.{Inputs}
 use Rattle.rules.specs.declared.run.Run.{Run}
 use Rattle.rules.specs.declared.run.Step.{Step}
-use Rattle.rules.specs.declared.run.Totals.{Totals}
+use Rattle.rules.specs.Quantities.{Totals}
 use Rattle.rules.specs.Answers.{Answer, accepted, refused, ◌>>◌, result_of}
 use Rattle.rules.specs.StationRecord.{set_at}
 use Rattle.rules.specs.Modes.{state_at}

@@ -2,7 +2,7 @@
 -- configuration's capacity, and one mask of the sets that bar a configuration.
 use Rattle.std.specs.Prelude.{◌≡◌, ℕ, List, Option}
 use Rattle.rules.specs.declared.station.Station.{Station}
-use Rattle.rules.specs.declared.run.Watts.{Watts}
+use Rattle.rules.specs.Quantities.{Watts}
 use Rattle.rules.specs.Flows.{rest_of}
 use Rattle.rules.specs.Setpoint.{wanted_for, held_after}
 use Rattle.commitment.specs.declared.commit.Committed.{Committed}

@@ -8,7 +8,7 @@ use native.Mathlib.Nat.{div-mul-le_self, mul-le-mul_left, mul-le-mul_right, le_r
 use Rattle.rules.specs.declared.station.Battery.{Battery}
 use Rattle.rules.specs.declared.station.Station.{Station}
 use Rattle.rules.specs.declared.run.Inputs.{Inputs}
-use Rattle.rules.specs.declared.run.Watts.{Watts}
+use Rattle.rules.specs.Quantities.{Watts}
 use Rattle.rules.specs.Share.{capacity}
 use Rattle.rules.specs.Flows.{floor_load, shed_now, solar_on_load, battery_gives, battery_takes, store_after, diesel_for, watts_with, watts_for}
 

@@ -17,8 +17,8 @@ use Rattle.rules.specs.declared.station.Control.{Control}
 use Rattle.rules.specs.declared.station.GenSet.{GenSet}
 use Rattle.rules.specs.declared.station.Station.{Station}
 use Rattle.rules.specs.declared.run.SetState.{SetState}
-use Rattle.rules.specs.declared.run.Watts.{Watts}
-use Rattle.rules.specs.declared.run.Totals.{Totals}
+use Rattle.rules.specs.Quantities.{Watts}
+use Rattle.rules.specs.Quantities.{Totals}
 use Rattle.rules.specs.declared.run.Inputs.{Inputs}
 use Rattle.rules.specs.Share.{capacity}
 use Rattle.rules.specs.Flows.{shed_now, solar_on_load, battery_gives, battery_takes, diesel_for, watts_with, watts_for, shed_decided, decided_after}

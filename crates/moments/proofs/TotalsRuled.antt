@@ -1,7 +1,7 @@
 -- Of a possible record the station totals with a second's watts are the rules' own: each fits its type. Assumes nothing.
 use Rattle.std.proofs.Common.{◌≡◌, ◌+◌, ◌≤◌, arith}
-use Rattle.rules.specs.declared.run.Totals.{Totals}
-use Rattle.rules.specs.declared.run.Watts.{Watts}
+use Rattle.rules.specs.Quantities.{Totals}
+use Rattle.rules.specs.Quantities.{Watts}
 use Rattle.rules.specs.Second.{plus}
 use Rattle.set_moves.proofs.Fits.{small64}
 use Rattle.moments.specs.Totals.{plus_in, SmallTotals}

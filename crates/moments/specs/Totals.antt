@@ -1,7 +1,7 @@
 -- The station totals with a second's watts, as their type holds them: of a possible record they are the rules' own (proofs/TotalsRuled.antt).
 use Rattle.std.specs.Prelude.{◌+◌, ◌≤◌}
-use Rattle.rules.specs.declared.run.Totals.{Totals}
-use Rattle.rules.specs.declared.run.Watts.{Watts}
+use Rattle.rules.specs.Quantities.{Totals}
+use Rattle.rules.specs.Quantities.{Watts}
 use Rattle.set_moves.specs.InType.{in64}
 
 abbrev pub plus_in : Totals → Watts → Totals

@@ -15,7 +15,7 @@ use Rattle.rules.specs.declared.run.Mode.{Mode}
 use Rattle.rules.specs.declared.run.Mode.TheVariants.{Off, Warming, On, Cooling, Service}
 use Rattle.rules.specs.declared.run.Run.{Run}
 use Rattle.rules.specs.declared.run.SetState.{SetState}
-use Rattle.rules.specs.declared.run.Totals.{Totals}
+use Rattle.rules.specs.Quantities.{Totals}
 use Rattle.rules.specs.Numbers.{has}
 use Rattle.rules.specs.StationRecord.{set_at}
 use Rattle.rules.specs.Share.{share}

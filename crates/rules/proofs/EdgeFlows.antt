@@ -4,7 +4,7 @@ use mathlib.Core.Path.{◌≡◌, refl}
 use mathlib.Core.List.{List, [], ◌∷◌, ◌++◌}
 use lib.ListN.{replicate}
 use Rattle.rules.specs.declared.station.Battery.{Battery}
-use Rattle.rules.specs.declared.run.Watts.{Watts}
+use Rattle.rules.specs.Quantities.{Watts}
 use Rattle.rules.specs.StationFile.{control_of, battery_of}
 use Rattle.rules.specs.Flows.{shed_now, solar_on_load, battery_gives, battery_takes, store_after}
 use Rattle.rules.specs.Flows.{diesel_for, watts_with, watts_for, shed_decided, decided_after}

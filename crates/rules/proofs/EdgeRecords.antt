@@ -8,7 +8,7 @@ use Rattle.rules.specs.declared.station.Station.{Station}
 use Rattle.rules.specs.declared.run.Mode.{Mode}
 use Rattle.rules.specs.declared.run.Mode.TheVariants.{Off, Warming, On, Cooling, Service}
 use Rattle.rules.specs.declared.run.SetState.{SetState}
-use Rattle.rules.specs.declared.run.Totals.{Totals}
+use Rattle.rules.specs.Quantities.{Totals}
 use Rattle.rules.specs.declared.run.Run.{Run}
 use Rattle.rules.specs.StationFile.{control_of, battery_of, set_of}
 use Rattle.rules.specs.Cases.{Case, ◌shows◌}

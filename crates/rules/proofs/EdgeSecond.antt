@@ -10,7 +10,7 @@ use lib.Ieee
 use lib.Count
 use Rattle.rules.specs.declared.station.Station.{Station}
 use Rattle.rules.specs.declared.run.Mode.TheVariants.{Off, Warming, On}
-use Rattle.rules.specs.declared.run.Totals.{Totals}
+use Rattle.rules.specs.Quantities.{Totals}
 use Rattle.rules.specs.declared.run.Inputs.{Inputs}
 use Rattle.rules.specs.declared.run.Run.{Run}
 use Rattle.rules.specs.declared.run.Step.{Step}

@@ -4,7 +4,7 @@ use Rattle.rules.specs.declared.station.Battery.{Battery}
 use Rattle.rules.specs.declared.station.Control.{Control}
 use Rattle.rules.specs.declared.station.Station.{Station}
 use Rattle.rules.specs.declared.run.Inputs.{Inputs}
-use Rattle.rules.specs.declared.run.Watts.{Watts}
+use Rattle.rules.specs.Quantities.{Watts}
 use Rattle.rules.specs.Share.{capacity}
 
 abbrev pub percent : ℕ → ℕ → ℕ

@@ -1,4 +1,5 @@
 -- Document 01 as definitions, in its own order. Nothing here is proved, and nothing is assumed.
+pub mod Quantities
 pub mod Numbers
 pub mod Bytes
 pub mod Chunks

@@ -34,33 +34,25 @@ pub struct Filter {
     pub held: f64,
 }
 
-// A second's watts: the solar offered, and the row's eight watt columns.
+// A number for each flow of energy: the solar offered, and the row's eight watt columns.
 #[derive(Clone, Copy)]
-pub struct Watts {
-    pub offered: u32,
-    pub load: u32,
-    pub shed: u32,
-    pub solar: u32,
-    pub charge: u32,
-    pub spill: u32,
-    pub give: u32,
-    pub diesel: u32,
-    pub unserved: u32,
+pub struct ByFlow<T> {
+    pub offered: T,
+    pub load: T,
+    pub shed: T,
+    pub solar: T,
+    pub charge: T,
+    pub spill: T,
+    pub give: T,
+    pub diesel: T,
+    pub unserved: T,
 }
 
+// A second's watts.
+pub type Watts = ByFlow<u32>;
+
 // The station totals: the same, summed over the seconds done, in Ws.
-#[derive(Clone, Copy)]
-pub struct Totals {
-    pub offered: u64,
-    pub load: u64,
-    pub shed: u64,
-    pub solar: u64,
-    pub charge: u64,
-    pub spill: u64,
-    pub give: u64,
-    pub diesel: u64,
-    pub unserved: u64,
-}
+pub type Totals = ByFlow<u64>;
 
 #[derive(Clone, Copy)]
 pub struct Run {

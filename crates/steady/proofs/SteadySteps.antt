@@ -11,7 +11,7 @@ use Rattle.rules.specs.declared.run.Inputs.{Inputs}
 use Rattle.rules.specs.declared.run.Run.{Run}
 use Rattle.rules.specs.declared.run.SetState.{SetState}
 use Rattle.rules.specs.declared.run.Step.{Step}
-use Rattle.rules.specs.declared.run.Watts.{Watts}
+use Rattle.rules.specs.Quantities.{Watts}
 use Rattle.rules.specs.Numbers.{has}
 use Rattle.rules.specs.Share.{capacity}
 use Rattle.rules.specs.Modes.{state_at, is_on, ticked, on_mask}

@@ -7,7 +7,7 @@ use Rattle.rules.specs.declared.station.Station.{Station}
 use Rattle.rules.specs.declared.run.SetState.{SetState}
 use Rattle.rules.specs.declared.run.Inputs.{Inputs}
 use Rattle.rules.specs.declared.run.Run.{Run}
-use Rattle.rules.specs.declared.run.Watts.{Watts}
+use Rattle.rules.specs.Quantities.{Watts}
 use Rattle.rules.specs.Share.{capacity}
 use Rattle.rules.specs.Modes.{ticked, on_mask}
 use Rattle.rules.specs.Flows.{floor_load}

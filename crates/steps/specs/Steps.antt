@@ -7,7 +7,7 @@ use Rattle.rules.specs.declared.run.Inputs.{Inputs}
 use Rattle.rules.specs.declared.run.Row.{Row}
 use Rattle.rules.specs.declared.run.Run.{Run}
 use Rattle.rules.specs.declared.run.SetState.{SetState}
-use Rattle.rules.specs.declared.run.Watts.{Watts}
+use Rattle.rules.specs.Quantities.{Watts}
 use Rattle.rules.specs.Flows.{watts_for, shed_decided}
 use Rattle.rules.specs.Configuration.{mask_called, since_after}
 use Rattle.rules.specs.Second.{states_now, on_now, cap_now, floor_now, store_now, held_now}
