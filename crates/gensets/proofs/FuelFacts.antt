@@ -1,13 +1,10 @@
 -- The rate of a set, case by case: out of range for numbers that no file gives, and the rules' own rate for every set of a station
 -- that some file gives, up to twice its rating. Assumes nothing.
 use Rattle.std.specs.Prelude.{Ok, Err, Result}
-use mathlib.Core.Path.{◌≡◌, refl, sym, subst}
+use mathlib.Core.Path.{◌≡◌, refl, sym}
 use mathlib.Core.Bool.{true, false}
-use mathlib.Core.List.{[], ◌∷◌}
 use Prim.Native.Nat.{ℕ, suc, ◌*◌, ◌/◌, ◌≤◌, ◌<◌}
 use native.Mathlib.Omega.{arith}
-use types.Run.{OneOf, miss}
-use denote.Enum.Declared.{tag_of}
 use borrow.Author.Tests.{le-leb, lt-leb, lt-ltb, le-ltb}
 use Rattle.rules.specs.declared.station.GenSet.{GenSet}
 use Rattle.rules.specs.declared.station.Station.{Station}
@@ -19,31 +16,26 @@ use Rattle.rules.proofs.StationFacts.{rating-range, points-range, pair-at, right
 use Rattle.rules.proofs.Curve.{loads-rise, lower-inside}
 use Rattle.laws.proofs.StationAt.{set-at}
 use Rattle.gensets.specs.Leaves.{line_right, rateable, rate_told}
-use Rattle.gensets.specs.contracts.fuel.Rate.{the_type}
 use Rattle.gensets.specs.declared.fuel.NoRate.{NoRate}
 
 -- ---- any record
 
--- an answer that has a rate is neither of the other two
-pub rate-only : (r : Result ℕ NoRate) (n : ℕ) → r ≡ Ok n → OneOf (1 ∷ 2 ∷ []) (tag_of the_type r) → ⊥
-rate-only r n e k = miss (1 ∷ 2 ∷ []) 0 tt (subst (λ (a : Result ℕ NoRate). OneOf (1 ∷ 2 ∷ []) (tag_of the_type a)) e k)
-
 module _ (g : GenSet) (power : ℕ) where
-  pub too_few : g.points < 2 → (Err NoRate.OutOfRange) ≡ rate_told g power
+  pub too_few : g.points < 2 → Err NoRate.OutOfRange ≡ rate_told g power
   unfolding rate_told rateable
   too_few h = rw (lt-leb 2 g.points h)
 
-  pub too_many : 5 < g.points → (Err NoRate.OutOfRange) ≡ rate_told g power
+  pub too_many : 5 < g.points → Err NoRate.OutOfRange ≡ rate_told g power
   unfolding rate_told rateable
   too_many h = rw (le-leb 2 g.points (omega arith), lt-leb g.points 5 h)
 
   -- where the count of points is in rule, and j is the lower point
   module _ (least : 2 ≤ g.points) (most : g.points ≤ 5) (j : ℕ) (lower : j ≡ lower_point g power) where
-    pub line-wrong : line_right g j ≡ false → (Err NoRate.OutOfRange) ≡ rate_told g power
+    pub line-wrong : line_right g j ≡ false → Err NoRate.OutOfRange ≡ rate_told g power
     unfolding rate_told rateable
     line-wrong h = rw (← lower, fact-within 2 5 g.points least most, h)
 
-    pub power-over : line_right g j ≡ true → 2 * g.rating < power → (Err NoRate.OverTwiceRating) ≡ rate_told g power
+    pub power-over : line_right g j ≡ true → 2 * g.rating < power → Err NoRate.OverTwiceRating ≡ rate_told g power
     unfolding rate_told rateable
     power-over h l = rw (← lower, fact-within 2 5 g.points least most, h, lt-ltb (2 * g.rating) power l)
 

@@ -42,11 +42,11 @@ module _ (line : Line) (small : line_small line ≡ true) where
   unfolding rate_on
   rate-here at h = rw (small, le-leb at 20_000_000_000 h)
 
-  pub rate-too-far : (at : ℕ) → 20_000_000_000 < at → (Err NoRate.OutOfRange) ≡ rate_on line at
+  pub rate-too-far : (at : ℕ) → 20_000_000_000 < at → Err NoRate.OutOfRange ≡ rate_on line at
   unfolding rate_on
   rate-too-far at h = rw (small, lt-leb at 20_000_000_000 h)
 
-pub rate-too-large : (line : Line) (at : ℕ) → line_small line ≡ false → (Err NoRate.OutOfRange) ≡ rate_on line at
+pub rate-too-large : (line : Line) (at : ℕ) → line_small line ≡ false → Err NoRate.OutOfRange ≡ rate_on line at
 unfolding rate_on
 rate-too-large line at h = rw h
 

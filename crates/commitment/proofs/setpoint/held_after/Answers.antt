@@ -3,10 +3,10 @@
 use Rattle.rules.specs.Setpoint.{float, held_after}
 use Rattle.commitment.proofs.setpoint.held_after.Goals as goal
 
-pub returns-in-Absent : goal.returns-in-Absent
+pub returns-in-None : goal.returns-in-None
 unfolding held_after float
-returns-in-Absent c = rw (c.in-Absent.is, c.nearest_u64_to_f64-asked.ensures)
+returns-in-None c = rw (c.in-None.is, c.nearest_u64_to_f64-asked.ensures)
 
-pub returns-in-At : goal.returns-in-At
+pub returns-in-Some : goal.returns-in-Some
 unfolding held_after float
-returns-in-At c = rw (c.in-At.is, c.filtered.ensures, c.filter_of.ensures, c.nearest_u64_to_f64-asked.ensures)
+returns-in-Some c = rw (c.in-Some.is, c.filtered.ensures, c.filter_of.ensures, c.nearest_u64_to_f64-asked.ensures)
