@@ -8,12 +8,12 @@ use Rattle.station.proofs.StationLaws.{refused-reading}
 use Rattle.station.proofs.chunks.is_station_refused.Goals as goal
 use Rattle.rules.specs.declared.answers.Refusal.{Refusal}
 
-pub returns-in-Accepted : goal.returns-in-Accepted
-returns-in-Accepted c =
+pub returns-in-Ok : goal.returns-in-Ok
+returns-in-Ok c =
     let file = c.args.file in
-    ap (λ (v : Result (Unit {0}) Refusal). is_refused (result_of v)) (sym c.in-Accepted.is) ∙ refused-reading c.station_of-reading.result.verdict (station_with file []) c.station_of-reading.ensures.0
+    ap (λ (v : Result (Unit {0}) Refusal). is_refused (result_of v)) (sym c.in-Ok.is) ∙ refused-reading c.station_of-reading.result.verdict (station_with file []) c.station_of-reading.ensures.0
 
-pub returns-in-Refused : goal.returns-in-Refused
-returns-in-Refused c =
+pub returns-in-Err : goal.returns-in-Err
+returns-in-Err c =
     let file = c.args.file in
-    ap (λ (v : Result (Unit {0}) Refusal). is_refused (result_of v)) (sym c.in-Refused.is) ∙ refused-reading c.station_of-reading.result.verdict (station_with file []) c.station_of-reading.ensures.0
+    ap (λ (v : Result (Unit {0}) Refusal). is_refused (result_of v)) (sym c.in-Err.is) ∙ refused-reading c.station_of-reading.result.verdict (station_with file []) c.station_of-reading.ensures.0

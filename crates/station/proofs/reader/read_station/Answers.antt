@@ -13,18 +13,18 @@ returns-in_default c =
 
 pub record_of-station-requires : goal.record_of-station-requires
 record_of-station-requires c =
-    contents-passed c.args.s.now _ c.contents_right-contents.ensures c.in-Accepted.is
+    contents-passed c.args.s.now _ c.contents_right-contents.ensures c.in-Ok.is
 
 pub returns-in_default-values : goal.returns-in_default-values
 returns-in_default-values c =
     let s = c.args.s.now in
     let w = c.values_right-values.ensures ∙ ap values_right c.record_of-station.ensures in
-    let r = values-refused s _ c.contents_right-contents.ensures c.in-Accepted.is c.values_right-values.result w _ c.in_default-values.is in
+    let r = values-refused s _ c.contents_right-contents.ensures c.in-Ok.is c.values_right-values.result w _ c.in_default-values.is in
     record { verdict_value = ap result_of c.refused-in_default-values.ensures.0 ∙ r.0; station_value = c.refused-in_default-values.ensures.1 ∙ r.1 }
 
 pub returns : goal.returns
 returns c =
     let s = c.args.s.now in
     let w = c.values_right-values.ensures ∙ ap values_right c.record_of-station.ensures in
-    let r = file-read s _ c.contents_right-contents.ensures c.in-Accepted.is c.values_right-values.result w c.in-Accepted-values.is in
+    let r = file-read s _ c.contents_right-contents.ensures c.in-Ok.is c.values_right-values.result w c.in-Ok-values.is in
     record { verdict_value = r.0; station_value = c.record_of-station.ensures ∙ r.1 }

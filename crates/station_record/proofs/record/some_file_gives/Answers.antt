@@ -11,4 +11,4 @@ returns-in_default c =
 
 pub returns : goal.returns
 returns c =
-    unused-last c.args.st c.if-not-setcount-configcount.false _ c.values_right-verdict.ensures _ _ c.in-Accepted.is c.sets_unused.ensures c.configurations_unused.ensures
+    unused-last c.args.st c.if-not-setcount-configcount.false _ c.values_right-verdict.ensures _ _ c.in-Ok.is c.sets_unused.ensures c.configurations_unused.ensures

@@ -21,4 +21,4 @@ returns-in_default c =
 pub returns : goal.returns
 returns c =
     let a = c.args in
-    c.configurations_right.ensures ∙ configurations-last a.st (sym c.control_right.ensures ∙ c.if-not-control_right.false) (sym c.battery_right.ensures ∙ c.if-not-battery_right.false) _ c.sets_right-verdict.ensures c.in-Accepted.is
+    c.configurations_right.ensures ∙ configurations-last a.st (sym c.control_right.ensures ∙ c.if-not-control_right.false) (sym c.battery_right.ensures ∙ c.if-not-battery_right.false) _ c.sets_right-verdict.ensures c.in-Ok.is
