@@ -16,11 +16,11 @@ point-is : (c : After-find-point) → c.find-point.result ≡ index_of point c.a
 point-is c = c.find-point.ensures.first ∙ point_at c.args.cell.now
 
 -- what the two numbers are
-whole-read : (c : In-Number) → Read 6 (take c.find-point.result c.args.cell.now) c.in-Number.whole
-whole-read c = read_is 6 _ _ (sym c.in-Number.is ∙ c.digits_of.ensures)
+whole-read : (c : In-Number) → Read 6 (take c.find-point.result c.args.cell.now) c.in-Some.whole
+whole-read c = read_is 6 _ _ (sym c.in-Some.is ∙ c.digits_of.ensures)
 
-fraction-read : (c : In-Number-digits_of) → Read 3 (take (length c.args.cell.now - (c.find-point.result + 1)) (drop (c.find-point.result + 1) c.args.cell.now)) c.in-Number-digits_of.fraction
-fraction-read c = read_is 3 _ _ (sym c.in-Number-digits_of.is ∙ c.digits_of-2.ensures)
+fraction-read : (c : In-Number-digits_of) → Read 3 (take (length c.args.cell.now - (c.find-point.result + 1)) (drop (c.find-point.result + 1) c.args.cell.now)) c.in-Some-digits_of.fraction
+fraction-read c = read_is 3 _ _ (sym c.in-Some-digits_of.is ∙ c.digits_of-2.ensures)
 
 -- what the decimals add fits
 decimals-small : (s : List ℕ) (fraction worth : ℕ) → Read 3 s fraction → worth ≤ 1000 → fraction * worth ≤ 999000

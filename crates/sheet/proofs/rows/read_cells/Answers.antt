@@ -12,19 +12,19 @@ returns-in_default c =
 pub returns-in_default-left : goal.returns-in_default-left
 returns-in_default-left c =
     ap (refusal_of {A = Sample}) c.refusal_of-in_default-left.ensures
-    ∙ wrong_second _ _ _ _ _ _ _ _ c.cell_under-time.ensures c.in-Value.is c.cell_under-left.result c.cell_under-left.ensures c.in_default-left.not-Value
+    ∙ wrong_second _ _ _ _ _ _ _ _ c.cell_under-time.ensures c.in-Ok.is c.cell_under-left.result c.cell_under-left.ensures c.in_default-left.not-Value
 
 pub returns-in_default-middle : goal.returns-in_default-middle
 returns-in_default-middle c =
     ap (refusal_of {A = Sample}) c.refusal_of-in_default-middle.ensures
-    ∙ wrong-third _ _ _ _ _ _ _ _ c.cell_under-time.ensures c.in-Value.is _ _ c.cell_under-left.ensures c.in-Value-left.is c.cell_under-middle.result c.cell_under-middle.ensures c.in_default-middle.not-Value
+    ∙ wrong-third _ _ _ _ _ _ _ _ c.cell_under-time.ensures c.in-Ok.is _ _ c.cell_under-left.ensures c.in-Ok-left.is c.cell_under-middle.result c.cell_under-middle.ensures c.in_default-middle.not-Value
 
 pub returns-in_default-right : goal.returns-in_default-right
 returns-in_default-right c =
     ap (refusal_of {A = Sample}) c.refusal_of-in_default-right.ensures
-    ∙ wrong-fourth _ _ _ _ _ _ _ _ c.cell_under-time.ensures c.in-Value.is _ _ c.cell_under-left.ensures c.in-Value-left.is _ _ c.cell_under-middle.ensures c.in-Value-middle.is c.cell_under-right.result c.cell_under-right.ensures c.in_default-right.not-Value
+    ∙ wrong-fourth _ _ _ _ _ _ _ _ c.cell_under-time.ensures c.in-Ok.is _ _ c.cell_under-left.ensures c.in-Ok-left.is _ _ c.cell_under-middle.ensures c.in-Ok-middle.is c.cell_under-right.result c.cell_under-right.ensures c.in_default-right.not-Value
 
 pub returns : goal.returns
 returns c =
     c.agreeing.ensures
-    ∙ all-four _ _ _ _ _ _ _ _ c.cell_under-time.ensures c.in-Value.is _ _ c.cell_under-left.ensures c.in-Value-left.is _ _ c.cell_under-middle.ensures c.in-Value-middle.is _ _ c.cell_under-right.ensures c.in-Value-right.is
+    ∙ all-four _ _ _ _ _ _ _ _ c.cell_under-time.ensures c.in-Ok.is _ _ c.cell_under-left.ensures c.in-Ok-left.is _ _ c.cell_under-middle.ensures c.in-Ok-middle.is _ _ c.cell_under-right.ensures c.in-Ok-right.is

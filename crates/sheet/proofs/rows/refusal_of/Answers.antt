@@ -2,8 +2,8 @@
 
 use Rattle.sheet.proofs.rows.refusal_of.Goals as goal
 
-pub returns-in-Value : goal.returns-in-Value
-returns-in-Value c = rw c.in-Value.is
+pub returns-in-Ok : goal.returns-in-Ok
+returns-in-Ok c = rw c.in-Ok.is
 
 pub returns-in-Malformed : goal.returns-in-Malformed
 returns-in-Malformed c = rw c.in-Malformed.is

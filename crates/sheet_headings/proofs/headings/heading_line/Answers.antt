@@ -31,7 +31,7 @@ loop-end-preserved c =
     let heading = c.before.before in
     let turn = heading.loop-end in
     let starts = heading.cell_at-heading.ensures.result_value in
-    let found = found-there _ _ turn.invariant.1 _ heading.loop-end-test.true _ starts _ c.with_heading-headed.ensures _ c.in-Found.is in
+    let found = found-there _ _ turn.invariant.1 _ heading.loop-end-test.true _ starts _ c.with_heading-headed.ensures _ c.in-Ok.is in
     (heading-within _ _ _ starts (omega arith), found.0, turn.invariant.2 ∙ found.1)
 
 pub returns-then-read-eq0 : goal.returns-then-read-eq0
