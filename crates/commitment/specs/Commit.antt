@@ -1,6 +1,6 @@
 -- Document 01, steps 9 and 10, of what the call is handed: a second's watts, the setpoint and the configuration before it, each
 -- configuration's capacity, and one mask of the sets that bar a configuration.
-use Rattle.std.specs.Prelude.{◌≡◌, ℕ, List, Option}
+use Rattle.std.specs.Prelude.{◌≡◌, ℕ, List, Float, Option}
 use Rattle.rules.specs.declared.station.Station.{Station}
 use Rattle.rules.specs.Quantities.{Watts}
 use Rattle.rules.specs.Flows.{rest_of}
