@@ -2,8 +2,8 @@
 
 use Rattle.test_chunks.proofs.row_answer.Goals as goal
 
-pub returns-in-Row : goal.returns-in-Row
-returns-in-Row c = rw c.in-Row.is
+pub returns-in-Some : goal.returns-in-Some
+returns-in-Some c = rw c.in-Some.is
 
-pub returns-in-Nothing : goal.returns-in-Nothing
-returns-in-Nothing c = rw c.in-Nothing.is
+pub returns-in-None : goal.returns-in-None
+returns-in-None c = rw c.in-None.is

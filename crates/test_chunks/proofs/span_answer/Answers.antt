@@ -2,8 +2,8 @@
 
 use Rattle.test_chunks.proofs.span_answer.Goals as goal
 
-pub returns-in-Accepted : goal.returns-in-Accepted
-returns-in-Accepted c = rw c.in-Accepted.is
+pub returns-in-Ok : goal.returns-in-Ok
+returns-in-Ok c = rw c.in-Ok.is
 
-pub returns-in-Refused : goal.returns-in-Refused
-returns-in-Refused c = rw c.in-Refused.is (λ i. record { number = c.number_and_place-told.ensures.0 i; place = c.number_and_place-told.ensures.1 i; rows = 0; last = 0 })
+pub returns-in-Err : goal.returns-in-Err
+returns-in-Err c = rw c.in-Err.is (λ i. record { number = c.number_and_place-told.ensures.0 i; place = c.number_and_place-told.ensures.1 i; rows = 0; last = 0 })

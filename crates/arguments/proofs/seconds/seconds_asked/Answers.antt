@@ -3,18 +3,18 @@ use mathlib.Core.Path.{sym, ap, ◌∙◌}
 use Rattle.arguments.proofs.AskedLaws.{asked_by, asked_by_lem}
 use Rattle.arguments.proofs.seconds.seconds_asked.Goals as goal
 
-pub returns-in-Value : goal.returns-in-Value
-returns-in-Value c =
+pub returns-in-Ok : goal.returns-in-Ok
+returns-in-Ok c =
     let cell = c.time-cell in
     let s = c.args.bytes.now in
-    ap asked_by (sym c.in-Value.is) ∙ asked_by_lem cell.result s cell.ensures
+    ap asked_by (sym c.in-Ok.is) ∙ asked_by_lem cell.result s cell.ensures
 
-pub returns-in-Malformed : goal.returns-in-Malformed
-returns-in-Malformed c =
+pub returns-in-Err-Malformed : goal.returns-in-Err-Malformed
+returns-in-Err-Malformed c =
     let s = c.args.bytes.now in
-    ap asked_by (sym c.in-Malformed.is) ∙ asked_by_lem c.time-cell.result s c.time-cell.ensures
+    ap asked_by (sym c.in-Err-Malformed.is) ∙ asked_by_lem c.time-cell.result s c.time-cell.ensures
 
-pub returns-in-OverLimit : goal.returns-in-OverLimit
-returns-in-OverLimit c =
+pub returns-in-Err-OverLimit : goal.returns-in-Err-OverLimit
+returns-in-Err-OverLimit c =
     let s = c.args.bytes.now in
-    ap asked_by (sym c.in-OverLimit.is) ∙ asked_by_lem c.time-cell.result s c.time-cell.ensures
+    ap asked_by (sym c.in-Err-OverLimit.is) ∙ asked_by_lem c.time-cell.result s c.time-cell.ensures

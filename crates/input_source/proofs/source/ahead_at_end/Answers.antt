@@ -2,17 +2,17 @@
 
 use Rattle.input_source.proofs.source.ahead_at_end.Goals as goal
 
-pub returns-in-LastRow : goal.returns-in-LastRow
-returns-in-LastRow c = rw (c.in-Unread.is, c.in-LastRow.is)
+pub returns-in-Ok-Some : goal.returns-in-Ok-Some
+returns-in-Ok-Some c = rw (c.in-Unread.is, c.in-Ok-Some.is)
 
-pub returns-in-Refused-ending : goal.returns-in-Refused-ending
-returns-in-Refused-ending c = rw (c.in-Unread.is, c.in-Refused-ending.is)
+pub returns-in-Err-ending : goal.returns-in-Err-ending
+returns-in-Err-ending c = rw (c.in-Unread.is, c.in-Err-ending.is)
 
-pub returns-in-LastRow-ending : goal.returns-in-LastRow-ending
-returns-in-LastRow-ending c = rw (c.in-Next.is, c.in-LastRow-ending.is)
+pub returns-in-Ok-Some-ending : goal.returns-in-Ok-Some-ending
+returns-in-Ok-Some-ending c = rw (c.in-Next.is, c.in-Ok-Some-ending.is)
 
-pub returns-in-NoRow-ending : goal.returns-in-NoRow-ending
-returns-in-NoRow-ending c = rw (c.in-Next.is, c.in-NoRow-ending.is)
+pub returns-in-Ok-None-ending : goal.returns-in-Ok-None-ending
+returns-in-Ok-None-ending c = rw (c.in-Next.is, c.in-Ok-None-ending.is)
 
-pub returns-in-Refused-ending-2 : goal.returns-in-Refused-ending-2
-returns-in-Refused-ending-2 c = rw (c.in-Next.is, c.in-Refused-ending-2.is)
+pub returns-in-Err-ending-2 : goal.returns-in-Err-ending-2
+returns-in-Err-ending-2 c = rw (c.in-Next.is, c.in-Err-ending-2.is)

@@ -14,12 +14,12 @@ returns-in_default c =
     not-reached a.told.begun a.line.now _ _ _ _ _ _ _ _ (c.loop-known.invariant a.told.now a.told.ahead a.told.next c.lesser-next.ensures c.comes_in-known.ensures) c.next_row-further.result c.next_row-further.ensures c.loop-known-test.true c.in_default.is
 
 pub loop-known-smaller : goal.loop-known-smaller
-loop-known-smaller c = let o = c.next_row-further.ensures.onward (ap is_row c.in-Row.is) in omega (arith, o, c.next_row-further.ensures.within)
+loop-known-smaller c = let o = c.next_row-further.ensures.onward (ap is_row c.in-Some.is) in omega (arith, o, c.next_row-further.ensures.within)
 
 pub loop-known-preserved : goal.loop-known-preserved
 loop-known-preserved c =
     let a = c.args in
-    λ now ahead at least is. reaching-more a.told.begun a.line.now now ahead _ _ at _ _ _ (c.loop-known.invariant now ahead at least is) c.next_row-further.result c.next_row-further.ensures c.loop-known-test.true _ _ c.in-Row.is c.comes_in-known-in-loop-known.ensures
+    λ now ahead at least is. reaching-more a.told.begun a.line.now now ahead _ _ at _ _ _ (c.loop-known.invariant now ahead at least is) c.next_row-further.result c.next_row-further.ensures c.loop-known-test.true _ _ c.in-Some.is c.comes_in-known-in-loop-known.ensures
 
 pub returns : goal.returns
 returns c =

@@ -2,11 +2,11 @@
 use Rattle.sample_rows.proofs.LineLaws.{ending-refused, ending-row, ending-nothing}
 use Rattle.sample_rows.proofs.reader.ended_at.Goals as goal
 
-pub returns-in-Refused : goal.returns-in-Refused
-returns-in-Refused c = ending-refused c.args.turn.found _ _ _ c.in-Refused.is c.verdict_at-verdict.ensures c.requires
+pub returns-in-Err : goal.returns-in-Err
+returns-in-Err c = ending-refused c.args.turn.found _ _ _ c.in-Err.is c.verdict_at-verdict.ensures c.requires
 
-pub returns-in-Row : goal.returns-in-Row
-returns-in-Row c = ending-row _ _ _ _ c.in-Row.is c.in_default.is c.verdict_at-verdict.ensures
+pub returns-in-Some : goal.returns-in-Some
+returns-in-Some c = ending-row _ _ _ _ c.in-Some.is c.in_default.is c.verdict_at-verdict.ensures
 
-pub returns-in-Nothing : goal.returns-in-Nothing
-returns-in-Nothing c = ending-nothing _ _ _ c.in-Nothing.is c.in_default.is c.verdict_at-verdict.ensures
+pub returns-in-None : goal.returns-in-None
+returns-in-None c = ending-nothing _ _ _ c.in-None.is c.in_default.is c.verdict_at-verdict.ensures

@@ -24,7 +24,7 @@ loop-next-preserved c =
     let i = c.loop-next.invariant in
     let e = not-false _ c.if-not-turn.false in
     let o = c.line_at-turn.ensures.onward e in
-    (c.line_at-turn.ensures.within, omega (arith, o, i.1), λ rest. i.2 rest ∙ (rw c.in-Nothing.is at (c.line_at-turn.ensures.line e rest)))
+    (c.line_at-turn.ensures.within, omega (arith, o, i.1), λ rest. i.2 rest ∙ (rw c.in-None.is at (c.line_at-turn.ensures.line e rest)))
 
 pub returns-in_default : goal.returns-in_default
 returns-in_default c =

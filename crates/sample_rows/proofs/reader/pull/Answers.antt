@@ -19,7 +19,7 @@ returns c =
     let n = c.next_row-row.ensures in
     let s = c.args.chunk.now in
     let next = c.next_row-row.result.next in
-    let e = c.in-Nothing.is in
+    let e = c.in-None.is in
     let f = n.further (ap is_row e) in
     record {
       rows = λ rest. (rw e at (n.rows rest)) ∙ kept_whole s next (record { line = c.args.reader.line; len = c.next_row-row.result.len; stage = c.next_row-row.result.stage }) c.kept.result rest f c.kept.ensures;

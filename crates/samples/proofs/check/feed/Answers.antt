@@ -31,7 +31,7 @@ returns-in_default c =
 pub loop-at-smaller : goal.loop-at-smaller
 loop-at-smaller c =
     let n = c.next_row-row.ensures in
-    omega (arith, n.onward (ap is_row c.in-Row.is), n.within, (c.usual_rows_at-usual.ensures c.args.check.reader.line).onward)
+    omega (arith, n.onward (ap is_row c.in-Some.is), n.within, (c.usual_rows_at-usual.ensures c.args.check.reader.line).onward)
 
 pub loop-at-preserved : goal.loop-at-preserved
 unfolding yet_to_come

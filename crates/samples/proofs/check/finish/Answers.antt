@@ -4,14 +4,14 @@ use Rattle.rules.specs.Answers.{accepted}
 use Rattle.samples.proofs.CheckLaws.{last_row, no_row, refused_end}
 use Rattle.samples.proofs.check.finish.Goals as goal
 
-pub returns-in-LastRow : goal.returns-in-LastRow
-returns-in-LastRow c =
-    ap accepted c.counted.ensures ∙ last_row c.args.check _ _ c.end.ensures c.in-LastRow.is
+pub returns-in-Ok-Some : goal.returns-in-Ok-Some
+returns-in-Ok-Some c =
+    ap accepted c.counted.ensures ∙ last_row c.args.check _ _ c.end.ensures c.in-Ok-Some.is
 
-pub returns-in-NoRow : goal.returns-in-NoRow
-returns-in-NoRow c =
-    no_row c.args.check _ c.end.ensures c.in-NoRow.is
+pub returns-in-Ok-None : goal.returns-in-Ok-None
+returns-in-Ok-None c =
+    no_row c.args.check _ c.end.ensures c.in-Ok-None.is
 
-pub returns-in-Refused : goal.returns-in-Refused
-returns-in-Refused c =
-    refused_end c.args.check _ _ c.end.ensures c.in-Refused.is
+pub returns-in-Err : goal.returns-in-Err
+returns-in-Err c =
+    refused_end c.args.check _ _ c.end.ensures c.in-Err.is

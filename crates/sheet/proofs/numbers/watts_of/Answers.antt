@@ -10,16 +10,16 @@ use Rattle.byte_search.specs.Bytes.{index_of}
 use Rattle.sheet.proofs.DigitLaws.{formed-none, Read, read_is}
 use Rattle.sheet.proofs.PowerLaws.{point_at, power-none, power-whole, power-decimals}
 use Rattle.sheet.proofs.numbers.watts_of.Goals as goal
-use Rattle.sheet.proofs.numbers.watts_of.Goals.{After-find-point, In-Number, In-Number-digits_of}
+use Rattle.sheet.proofs.numbers.watts_of.Goals.{After-find-point, In-Some, In-Some-digits_of}
 
 point-is : (c : After-find-point) → c.find-point.result ≡ index_of point c.args.cell.now
 point-is c = c.find-point.ensures.first ∙ point_at c.args.cell.now
 
 -- what the two numbers are
-whole-read : (c : In-Number) → Read 6 (take c.find-point.result c.args.cell.now) c.in-Some.whole
+whole-read : (c : In-Some) → Read 6 (take c.find-point.result c.args.cell.now) c.in-Some.whole
 whole-read c = read_is 6 _ _ (sym c.in-Some.is ∙ c.digits_of.ensures)
 
-fraction-read : (c : In-Number-digits_of) → Read 3 (take (length c.args.cell.now - (c.find-point.result + 1)) (drop (c.find-point.result + 1) c.args.cell.now)) c.in-Some-digits_of.fraction
+fraction-read : (c : In-Some-digits_of) → Read 3 (take (length c.args.cell.now - (c.find-point.result + 1)) (drop (c.find-point.result + 1) c.args.cell.now)) c.in-Some-digits_of.fraction
 fraction-read c = read_is 3 _ _ (sym c.in-Some-digits_of.is ∙ c.digits_of-2.ensures)
 
 -- what the decimals add fits
@@ -34,30 +34,30 @@ returns-in_default c =
     sym (power-none c.args.cell.now _ (point-is (goal.at.returns-in_default c).After-find-point) (formed-none (digits 6 (take c.find-point.result c.args.cell.now)) (value (take c.find-point.result c.args.cell.now)) (sym c.in_default.is ∙ c.digits_of.ensures)))
 
 pub overflow_mul-result : goal.overflow_mul-result
-overflow_mul-result c = omega (arith, (whole-read (goal.at.overflow_mul-result c).In-Number).below)
+overflow_mul-result c = omega (arith, (whole-read (goal.at.overflow_mul-result c).In-Some).below)
 
 pub returns-then-point-cell : goal.returns-then-point-cell
 returns-then-point-cell c =
-    let w = whole-read (goal.at.returns-then-point-cell c).In-Number in
+    let w = whole-read (goal.at.returns-then-point-cell c).In-Some in
     rw (power-whole c.args.cell.now c.find-point.result (point-is (goal.at.returns-then-point-cell c).After-find-point) c.if-point-cell.true, w.form, w.is)
 
 pub returns-in_default-digits_of : goal.returns-in_default-digits_of
 returns-in_default-digits_of c =
-    let w = whole-read (goal.at.returns-in_default-digits_of c).In-Number in
+    let w = whole-read (goal.at.returns-in_default-digits_of c).In-Some in
     let d = formed-none (digits 3 (take (length c.args.cell.now - (c.find-point.result + 1)) (drop (c.find-point.result + 1) c.args.cell.now))) (value (take (length c.args.cell.now - (c.find-point.result + 1)) (drop (c.find-point.result + 1) c.args.cell.now))) (sym c.in_default-digits_of.is ∙ c.digits_of-2.ensures) in
     rw (power-decimals c.args.cell.now c.find-point.result (point-is (goal.at.returns-in_default-digits_of c).After-find-point) (omega (arith, c.if-point-cell.false)), w.form, d)
 
 pub overflow_mul-result-2 : goal.overflow_mul-result-2
-overflow_mul-result-2 c = omega (arith, (whole-read (goal.at.overflow_mul-result-2 c).In-Number).below)
+overflow_mul-result-2 c = omega (arith, (whole-read (goal.at.overflow_mul-result-2 c).In-Some).below)
 
 pub overflow_mul-result-3 : goal.overflow_mul-result-3
-overflow_mul-result-3 c = omega (arith, decimals-small _ _ _ (fraction-read (goal.at.overflow_mul-result-3 c).In-Number-digits_of) c.last_worth.ensures.1)
+overflow_mul-result-3 c = omega (arith, decimals-small _ _ _ (fraction-read (goal.at.overflow_mul-result-3 c).In-Some-digits_of) c.last_worth.ensures.1)
 
 pub overflow_add-result : goal.overflow_add-result
-overflow_add-result c = omega (arith, decimals-small _ _ _ (fraction-read (goal.at.overflow_add-result c).In-Number-digits_of) c.last_worth.ensures.1, (whole-read (goal.at.overflow_add-result c).In-Number).below)
+overflow_add-result c = omega (arith, decimals-small _ _ _ (fraction-read (goal.at.overflow_add-result c).In-Some-digits_of) c.last_worth.ensures.1, (whole-read (goal.at.overflow_add-result c).In-Some).below)
 
 pub returns : goal.returns
 returns c =
-    let w = whole-read (goal.at.returns c).In-Number in
-    let d = fraction-read (goal.at.returns c).In-Number-digits_of in
+    let w = whole-read (goal.at.returns c).In-Some in
+    let d = fraction-read (goal.at.returns c).In-Some-digits_of in
     rw (power-decimals c.args.cell.now c.find-point.result (point-is (goal.at.returns c).After-find-point) (omega (arith, c.if-point-cell.false)), w.form, d.form, w.is, d.is, c.last_worth.ensures.0)

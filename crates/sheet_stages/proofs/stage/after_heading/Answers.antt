@@ -2,8 +2,8 @@
 use Rattle.sheet_stages.proofs.StageLaws.{heading-taken}
 use Rattle.sheet_stages.proofs.stage.after_heading.Goals as goal
 
-pub returns-in-Found : goal.returns-in-Found
-returns-in-Found c = λ l ls e. rw c.in-Found.is at (heading-taken l ls c.args.headed e)
+pub returns-in-Ok : goal.returns-in-Ok
+returns-in-Ok c = λ l ls e. rw c.in-Ok.is at (heading-taken l ls c.args.headed e)
 
-pub returns-in-Refused : goal.returns-in-Refused
-returns-in-Refused c = λ l ls e. rw c.in-Refused.is at (heading-taken l ls c.args.headed e)
+pub returns-in-Err : goal.returns-in-Err
+returns-in-Err c = λ l ls e. rw c.in-Err.is at (heading-taken l ls c.args.headed e)

@@ -3,10 +3,10 @@ use borrow.Author.Tests.{lt-ltb, le-ltb}
 use Rattle.sheet_stages.proofs.stage.after_later.Goals as goal
 
 pub returns-then-last-at : goal.returns-then-last-at
-returns-then-last-at c = rw (c.in-Values.is, lt-ltb _ _ c.if-last-at.true)
+returns-then-last-at c = rw (c.in-Ok.is, lt-ltb _ _ c.if-last-at.true)
 
-pub returns-in-Refused : goal.returns-in-Refused
-returns-in-Refused c = rw c.in-Refused.is
+pub returns-in-Err : goal.returns-in-Err
+returns-in-Err c = rw c.in-Err.is
 
 pub returns-else-last-at : goal.returns-else-last-at
-returns-else-last-at c = rw (c.in-Values.is, le-ltb _ _ c.if-last-at.false)
+returns-else-last-at c = rw (c.in-Ok.is, le-ltb _ _ c.if-last-at.false)

@@ -10,7 +10,7 @@ use Rattle.sheet.proofs.RowLaws.{row-whole, under-headings}
 use Rattle.usual_rows.proofs.UsualLaws.{cell-end}
 use Rattle.usual_rows.proofs.PowersLaws.{three-end, powers-line}
 use Rattle.usual_rows.proofs.usual.usual_row.Goals as goal
-use Rattle.usual_rows.proofs.usual.usual_row.Goals.{In-Number, In-Watts, In-Next}
+use Rattle.usual_rows.proofs.usual.usual_row.Goals.{In-Number, In-Watts, In-Some}
 
 room : (c : In-Number) → c.args.at + 44 ≤ length c.args.text.now
 room c = c.has_room.ensures c.if-not-has_room.false
@@ -22,8 +22,8 @@ time-read c = subst (λ (r : CellRead). TimeOf c.args.text.now c.args.at r) c.in
 powers-read : (c : In-Watts) → PowersOf c.args.text.now c.in-Number.time_end (PowersRead.Watts c.in-Watts.cells_end c.in-Watts.powers)
 powers-read c = subst (λ (r : PowersRead). PowersOf c.args.text.now c.in-Number.time_end r) c.in-Watts.is c.powers_after.ensures
 
-end_read : (c : In-Next) → EndTaken c.args.text.now c.in-Watts.cells_end c.in-Next.next
-end_read c = subst (λ (r : Option ℕ). EndOf c.args.text.now c.in-Watts.cells_end r) c.in-Next.is c.end_from.ensures
+end_read : (c : In-Some) → EndTaken c.args.text.now c.in-Watts.cells_end c.in-Some.next
+end_read c = subst (λ (r : Option ℕ). EndOf c.args.text.now c.in-Watts.cells_end r) c.in-Some.is c.end_from.ensures
 
 time-ends : (c : In-Number) → c.in-Number.time_end ≤ c.args.at + 9
 time-ends c = cell-end time_cell 9 316223999 c.args.text.now c.args.at c.in-Number.time_end c.in-Number.time (time-read c)
@@ -46,5 +46,5 @@ returns c =
     let columns = c.args.columns in
     let seconds = c.in-Number.time in
     let named = c.powers_named.ensures c.if-not-powers_named.false in
-    powers-line columns c.args.text.now c.args.at c.in-Number.time_end c.in-Watts.cells_end seconds c.in-Watts.powers c.in-Next.next named (room (goal.at.returns c).In-Number) (time-read (goal.at.returns c).In-Number) (powers-read (goal.at.returns c).In-Watts) (end_read (goal.at.returns c).In-Next) (Usual.Row _ _)
+    powers-line columns c.args.text.now c.args.at c.in-Number.time_end c.in-Watts.cells_end seconds c.in-Watts.powers c.in-Some.next named (room (goal.at.returns c).In-Number) (time-read (goal.at.returns c).In-Number) (powers-read (goal.at.returns c).In-Watts) (end_read (goal.at.returns c).In-Some) (Usual.Row _ _)
     (refl, λ line. row-whole columns line _ _ (under-headings columns seconds _ _ _ _ _ _ c.value_under.ensures c.value_under-2.ensures c.value_under-3.ensures) c.if-sample.false)
