@@ -1,5 +1,5 @@
 -- `usual_rows::usual::usual_row` meets its contract. Assumes nothing.
-use Rattle.std.specs.Prelude.{Option}
+use Rattle.std.specs.Prelude.{ℕ, Option}
 use Rattle.std.proofs.Common.{◌+◌, ◌≤◌, length, refl, subst, arith}
 use Rattle.rules.specs.SampleFile.{time_cell}
 use Rattle.usual_rows.specs.declared.usual.Usual.{Usual}
