@@ -30,10 +30,10 @@ slice_bounds-first_inputs-start c = omega (arith, c.loop-count.invariant.range)
 pub slice_bounds-first_inputs-end : goal.slice_bounds-first_inputs-end
 slice_bounds-first_inputs-end c = omega (arith, c.loop-count.invariant.range)
 
-pub returns-in-Refused : goal.returns-in-Refused
-returns-in-Refused c =
+pub returns-in-Err : goal.returns-in-Err
+returns-in-Err c =
     admitting-none c.loop-count.invariant c.loop-count-test.true
-    (rw (← asked (goal.at.returns-in-Refused c).After-first_inputs-x) (told-refused _ _ _ _ _ c.admit-verdict.ensures c.in-Refused.is))
+    (rw (← asked (goal.at.returns-in-Err c).After-first_inputs-x) (told-refused _ _ _ _ _ c.admit-verdict.ensures c.in-Err.is))
 
 pub overflow_add-second : goal.overflow_add-second
 overflow_add-second c =
