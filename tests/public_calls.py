@@ -38,11 +38,20 @@ def public_functions(module, text):
     clauses, and what it answers"""
     found = []
     for m in re.finditer(r'^[ \t]*pub (?:extern "C" )?fn (\w+)(?:<([^>]*)>)?\(([^)]*)\)', text, re.M):
-        names = [p.split(':')[0].replace('mut ', '').strip() for p in m.group(3).split(',') if p.strip()]
+        # a comma between a type's arguments parts no parameters
+        flat = m.group(3)
+        while '<' in flat:
+            flat = re.sub(r'<[^<>]*>', '', flat)
+        names = [p.split(':')[0].replace('mut ', '').strip() for p in flat.split(',') if p.strip()]
         lent = re.sub(r'\berr: &mut W\b', '', m.group(3)) if re.search(r'\bW: [^,]*\bWrite\b', m.group(2) or '') else m.group(3)
         exported = 'extern "C"' in m.group(0)
         clauses, rest = contract_of(text, m.end())
         found.append((m.group(1) if exported else module + '::' + m.group(1), names, lent, clauses, rest))
+    # a conversion is called by its trait's name, and its promise is the trait's ghost member
+    for m in re.finditer(r'^impl (?:Try)?From<[^{]*> for (\w+) \{\n(.*?)^\}', text, re.M | re.S):
+        call = re.search(r'^    fn ((?:try_)?from)\((\w+): ([^)]*)\)', m.group(2), re.M)
+        promised = re.search(r'^    ghost (?:try_)?from_gives\b', m.group(2), re.M)
+        found.append((module + '::' + m.group(1) + '::' + call.group(1), [call.group(2)], call.group(3), ['ensures'] if promised else [], '->'))
     return found
 
 
@@ -95,6 +104,7 @@ def sources():
 def must_tell():
     """wrong sources, each with what has to be told of it"""
     right = 'pub fn twice(x: u32) -> u64\n    ensures { result ≡ 2 * x }\n{\n    2 * (x as u64)\n}\n'
+    turned = 'impl From<u32> for Pair {\n    ghost from_gives = { λ x p. p.a ≡ x };\n\n    fn from(x: u32) -> Pair {\n        Pair { a: x }\n    }\n}\n'
     table = {'c::m::twice': ['x']}
     cases = [
         (right, table, []),
@@ -112,9 +122,13 @@ def must_tell():
         (right.replace('result ≡ 2 * x', 'result ≡ (record { v = x }).v'), table, []),
         ("pub fn part<'a>(s: &'a [u8]) -> &'a [u8] {\n    s\n}\n", {'c::m::part': ['s']}, ['c::m::part has no `ensures`']),
         ("pub fn fill<'a>(out: &'a mut [u8]) {\n}\n", {'c::m::fill': ['out']}, ['c::m::fill has no `ensures`']),
+        ('pub fn told(answer: Option<Result<u64, Fault>>, y: u8) -> u64\n    ensures { result ≡ y }\n{\n    y\n}\n', {'c::m::told': ['answer', 'y']}, []),
         (right, {}, ['c::m::twice is not in the table of public calls']),
         (right, {'c::m::twice': ['y']}, ['c::m::twice has the parameters (x), and (y) in the table of public calls']),
         ('', table, ['c::m::twice is in the table of public calls, and no public function']),
+        (turned, {'c::m::Pair::from': ['x']}, []),
+        (turned, {}, ['c::m::Pair::from is not in the table of public calls']),
+        (re.sub('    ghost.*\n', '', turned), {'c::m::Pair::from': ['x']}, ['c::m::Pair::from has no `ensures`']),
         ('#[unsafe(no_mangle)]\npub extern "C" fn c_share(a: u64,\n    b: u64) -> u64 {\n    a\n}\n', {'c_share': ['a', 'b']}, ['c_share has no `ensures`']),
     ]
     for text, listed, told in cases:

@@ -8,7 +8,7 @@ use rows::run_lines::{put_accepted, put_refused};
 use rules::answers::Refusal;
 use samples::check::finish;
 use station::chunks::station_of;
-use words::refusals::number_and_place;
+use words::refusals::NumberAndPlace;
 
 fn accept(held: Held, out: &mut [u8]) -> Machine
     ensures { Accepts out.old result out.new }
@@ -66,8 +66,8 @@ fn answer_samples(held: Held, out: &mut [u8]) -> Machine
     match checked {
         Ok(_) => accept(held, out),
         Err(refusal) => {
-            let place = number_and_place(refusal);
-            refuse_line(held, refusal, place.1, out)
+            let told = NumberAndPlace::from(refusal);
+            refuse_line(held, refusal, told.place, out)
         }
     }
 }

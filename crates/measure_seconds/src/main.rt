@@ -25,7 +25,7 @@ use sheet::numbers::{CellFault, time};
 use station::reader::read_station;
 use std::env::Env;
 use std::io::Write;
-use words::refusals::number_and_place;
+use words::refusals::NumberAndPlace;
 
 // How the seconds are worked.
 #[derive(Clone, Copy)]
@@ -76,11 +76,11 @@ fn seconds_asked(rt: &HostRuntime) -> Result<u32, CellFault> {
 }
 
 fn say_refusal<W: Write>(err: &mut W, refusal: Refusal) {
-    let answer = number_and_place(refusal);
+    let answer = NumberAndPlace::from(refusal);
     say(err, b" is refused with the number ");
-    number(err, answer.0);
+    number(err, answer.number);
     say(err, b", place ");
-    number(err, answer.1);
+    number(err, answer.place);
     say(err, b".\n");
 }
 

@@ -4,11 +4,11 @@ use plain_words::numbers::number;
 use plain_words::texts::say;
 use rules::answers::Refusal;
 use std::io::Write;
-use words::refusals::number_and_place;
+use words::refusals::NumberAndPlace;
 
 pub fn say_refused<W: Write>(err: &mut W, refusal: Refusal, place: Place) {
-    let answer = number_and_place(refusal);
+    let answer = NumberAndPlace::from(refusal);
     say_subject(err, place);
     say(err, b" is refused with the number ");
-    number(err, answer.0);
+    number(err, answer.number);
 }

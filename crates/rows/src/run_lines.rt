@@ -10,7 +10,7 @@ use rules::answers::Refusal;
 use rules::limits::LEAST_ROW_BUFFER;
 use rules::run::SetState;
 use texts::put_text;
-use words::refusals::number_and_place;
+use words::refusals::NumberAndPlace;
 
 // The heading of the rows.
 pub fn put_row_heading(buffer: &mut [u8]) -> Result<usize, Refusal>
@@ -70,8 +70,8 @@ pub fn put_refusal(number: u64, place: u64, buffer: &mut [u8]) -> Result<usize, 
 pub fn put_refused(refusal: Refusal, buffer: &mut [u8]) -> Result<usize, Refusal>
     ensures { TextPut (refused_line refusal) buffer.old result buffer.new }
 {
-    let answer = number_and_place(refusal);
-    put_refusal(answer.0, answer.1, buffer)
+    let answer = NumberAndPlace::from(refusal);
+    put_refusal(answer.number, answer.place, buffer)
 }
 
 // All that a program prints whose whole answer is that its files are in order.

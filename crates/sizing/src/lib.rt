@@ -11,7 +11,7 @@ mod share;
 use rules::answers::Refusal;
 use samples::check::check_samples;
 use station::reader::read_station;
-use words::refusals::number_and_place;
+use words::refusals::NumberAndPlace;
 
 // `number` is 0 where `value` is the answer; else it is document 01's refusal, with its `place`.
 #[repr(C)]
@@ -25,10 +25,10 @@ pub struct SizingAnswer {
 fn refused(refusal: Refusal) -> SizingAnswer
     ensures { result ≡ screen_answer (refusal_of {A = ℕ} refusal) }
 {
-    let told = number_and_place(refusal);
+    let told = NumberAndPlace::from(refusal);
     SizingAnswer {
-        number: told.0,
-        place: told.1,
+        number: told.number,
+        place: told.place,
         value: 0,
     }
 }

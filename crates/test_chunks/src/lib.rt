@@ -13,7 +13,7 @@ use rules::answers::Refusal;
 use rules::samples::Sample;
 use sample_rows::reader::{SampleReader, end, pull, reader};
 use samples::check::{SampleCheck, Span, check, feed, finish};
-use words::refusals::number_and_place;
+use words::refusals::NumberAndPlace;
 
 // `number` is 0 where the file is accepted; then `rows` and `last` are its span.
 #[repr(C)]
@@ -76,10 +76,10 @@ fn span_answer(checked: Result<Span, Refusal>) -> ChunkedAnswer
             last: span.last as u64,
         },
         Err(refusal) => {
-            let told = number_and_place(refusal);
+            let told = NumberAndPlace::from(refusal);
             ChunkedAnswer {
-                number: told.0,
-                place: told.1,
+                number: told.number,
+                place: told.place,
                 rows: 0,
                 last: 0,
             }

@@ -4,7 +4,7 @@ use crate::record_case::{inputs_in, put_record, run_in};
 use crate::station_case::station_in;
 use dispatch::second::second;
 use words::arithmetic::{lesser, wide};
-use words::refusals::number_and_place;
+use words::refusals::NumberAndPlace;
 
 // Where a case has the lent buffer's length.
 const ROOM: usize = 350;
@@ -27,10 +27,10 @@ fn put_outcome(answer: &mut [u64; 142], outcome: Result<usize, Refusal>) {
             answer[1] = size as u64;
         }
         Err(refusal) => {
-            let told = number_and_place(refusal);
+            let told = NumberAndPlace::from(refusal);
             answer[0] = 1;
-            answer[1] = told.0;
-            answer[2] = told.1;
+            answer[1] = told.number;
+            answer[2] = told.place;
         }
     }
 }

@@ -2,18 +2,14 @@
 ghost use Rattle.std.specs.Prelude.{◌≡◌, ◌<◌, ◌^◌, min, length};
 ghost use Rattle.rules.specs.Bytes.{little};
 
-use crate::arithmetic::{byte_u64, lesser};
-
 // The number in the first 8 bytes of a part; a byte that is not there counts 0.
 pub fn little(part: &[u8]) -> u64
     ensures value { result ≡ little 8 part.now }
     ensures upper_bound { result < 256 ^ min 8 (length part.now) }
 {
-    let mut at = lesser(8, part.len());
     let mut number: u64 = 0;
-    while 0 < at {
-        at -= 1;
-        number = number * 256 + byte_u64(part[at]);
+    for at in (0..part.len().min(8)).rev() {
+        number = number * 256 + part[at] as u64;
     }
     number
 }

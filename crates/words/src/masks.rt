@@ -24,5 +24,5 @@ pub fn next_set(mask: u32, from: u32) -> u32
     if rest == 0 {
         return 8;
     }
-    from + u32::trailing_zeros(rest)
+    from + rest.trailing_zeros()
 }

@@ -3,4 +3,4 @@
 use Rattle.sizing.proofs.refused.Goals as goal
 
 pub returns : goal.returns
-returns c = λ i. record { number = c.number_and_place-told.ensures.0 i; place = c.number_and_place-told.ensures.1 i; value = 0 }
+returns c = λ i. record { number = c.from-told.ensures.0 i; place = c.from-told.ensures.1 i; value = 0 }

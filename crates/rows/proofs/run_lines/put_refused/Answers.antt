@@ -4,4 +4,4 @@ use Rattle.rows.proofs.run_lines.put_refused.Goals as goal
 
 pub returns : goal.returns
 unfolding refused_line
-returns c = rw (c.number_and_place-answer.ensures.0, c.number_and_place-answer.ensures.1) at c.put_refusal.ensures
+returns c = rw (c.from-answer.ensures.0, c.from-answer.ensures.1) at c.put_refusal.ensures

@@ -1,6 +1,6 @@
--- `words::little::little` meets its contract. Assumes nothing.
-use Prim.Native.Nat.{suc, ◌-◌, ◌<◌, min}
-use mathlib.Core.Path.{◌≡◌}
+-- `words::little::little` meets its contract: the bytes from place `at` on are read. Assumes nothing.
+use Prim.Native.Nat.{suc, ◌-◌, min}
+use mathlib.Core.Path.{◌≡◌, refl}
 use native.Mathlib.Omega.{arith}
 use lib.ListN.{length}
 use borrow.Author.Rules.{rules}
@@ -10,34 +10,27 @@ use Rattle.words.proofs.little.little.Goals as goal
 pub loop-at-init : goal.loop-at-init
 loop-at-init c =
     let s = c.args.part.now in
-    let e = c.lesser-at.ensures in
-    let k : c.lesser-at.result - c.lesser-at.result ≡ 0 = omega arith in
-    (omega arith, e, read_none c.lesser-at.result s e, rw k (omega arith))
+    let e : c.min-at.result ≡ min 8 (length s) = search rules in
+    let k : min 8 (length s) - c.min-at.result ≡ 0 = omega arith in
+    record { read = read_none c.min-at.result s e; small = rw k (omega arith) }
 
 pub overflow_mul-number : goal.overflow_mul-number
 overflow_mul-number c =
-    let at = c.before in
-    let most = at.lesser-at.result in
-    record { fits = omega (arith, below-most (suc (most - at.loop-at.at)) _ (search rules) (below-turn (most - at.loop-at.at) at.loop-at.number 0 at.loop-at.invariant.3 (omega arith))) }
+    let at = c.loop-at in
+    let most = min 8 (length c.args.part.now) in
+    record { fits = omega (arith, below-most (suc (most - at.at)) _ (omega arith) (below-turn (most - at.at) at.number 0 at.invariant.small (omega arith))) }
 
 pub overflow_add-number : goal.overflow_add-number
 overflow_add-number c =
-    let at = c.before.before.before in
-    let most = at.lesser-at.result in
-    record { fits = below-most (suc (most - at.loop-at.at)) _ (search rules) (below-turn (most - at.loop-at.at) at.loop-at.number c.byte_u64.result at.loop-at.invariant.3 (omega (arith, c.byte_u64.ensures.upper_bound))) }
+    let at = c.loop-at in
+    let most = min 8 (length c.args.part.now) in
+    record { fits = below-most (suc (most - at.at)) _ (omega arith) (below-turn (most - at.at) at.number _ at.invariant.small (search rules)) }
 
 pub loop-at-preserved : goal.loop-at-preserved
 loop-at-preserved c =
-    let at = c.before.before.before in
-    let s = at.args.part.now in
-    let most = at.lesser-at.result in
-    let i = at.loop-at.invariant in
-    let p : 0 < at.loop-at.at = search rules in
-    (omega arith, i.1, read-turn at.loop-at.at at.loop-at.number c.byte_u64.result s p (omega (arith, i.0, i.1)) (omega (arith, i.0, i.1)) i.2 c.byte_u64.ensures.value, below_next most at.loop-at.at at.loop-at.number c.byte_u64.result p i.0 i.3 (omega (arith, c.byte_u64.ensures.upper_bound)))
-
-pub returns : goal.returns
-returns c =
-    let i = c.loop-at.invariant in
-    let e : c.loop-at.at ≡ 0 = omega arith in
-    let d : c.lesser-at.result - c.loop-at.at ≡ min 8 (length c.args.part.now) = omega (arith, i.1, e) in
-    record { value = rw e at i.2; upper_bound = rw d at i.3 }
+    let at = c.loop-at in
+    let s = c.args.part.now in
+    record {
+      read = read-turn at.at at.number _ s (omega arith) (omega arith) (omega arith) at.invariant.read refl;
+      small = below_next (min 8 (length s)) at.at at.number _ (omega arith) (omega arith) at.invariant.small (search rules);
+    }
