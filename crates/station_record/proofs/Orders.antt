@@ -1,5 +1,6 @@
 -- The checks of a record one after the other, as the code meets them: sets and configurations, all values, and those of 25. Assumes nothing.
 use Rattle.std.specs.Prelude.{Ok, Err, Result}
+use Rattle.std.specs.Result.{is_err}
 use Prim.Native.Nat.{ℕ, suc, ◌+◌, ◌≤◌, ◌<◌}
 use mathlib.Core.Path.{◌≡◌, sym, ap, ◌∙◌}
 use mathlib.Core.Bool.{Bool, true, false, ◌&&◌}
@@ -11,7 +12,7 @@ use Rattle.rules.specs.declared.answers.Refusal.{Refusal}
 use Rattle.rules.specs.declared.station.GenSet.{GenSet}
 use Rattle.rules.specs.declared.station.Station.{Station}
 use Rattle.rules.specs.Numbers.{within, every, all_zero}
-use Rattle.rules.specs.Answers.{Answer, accepted, refused, need, result_of, ◌>>◌}
+use Rattle.rules.specs.Answers.{Answer, accepted, refused, need, refusal_of, result_of, ◌>>◌}
 use Rattle.rules.specs.StationRecord.{past_end, set_at, control_right, battery_right, set_right, pairs_right, sets_right, configuration_right, configurations_right, values_right, set_unused, some_file_gives}
 
 -- the elements from place i on, of the first n: the one there, and the rest
@@ -72,7 +73,7 @@ module _ (st : Station) where
     battery-next e = rw (control, e)
 
     module _ (battery : battery_right st.battery ≡ true) (v : Result (Unit {0}) Refusal) (sets : result_of v ≡ sets_right 0 (take st.setcount st.sets)) where
-      pub sets-next : (r : Refusal) → v ≡ Err r → result_of v ≡ values_right st
+      pub sets-next : (r : Refusal) → v ≡ Err r → refusal_of r ≡ values_right st
       unfolding values_right
       sets-next r e = rw (control, battery, ← sets, e)
 
@@ -87,12 +88,15 @@ module _ (st : Station) where
   unfolding some_file_gives
   counts-first e = rw e
 
-  module _ (counts : within 1 8 st.setcount && within 1 64 st.configcount ≡ true) (v : Result (Unit {0}) Refusal) (values : result_of v ≡ values_right st) where
-    pub values-next : (r : Refusal) → v ≡ Err r → false ≡ some_file_gives st
+  module _ (counts : within 1 8 st.setcount && within 1 64 st.configcount ≡ true) where
+    pub values-next : (v : Result (Unit {0}) Refusal) → result_of v ≡ values_right st → is_err v ≡ true → false ≡ some_file_gives st
     unfolding some_file_gives
-    values-next r e = rw (counts, ← values, e)
+    values-next (Ok a) values e = cc
+    values-next (Err r) values e = rw (counts, ← values)
 
-    pub unused-last : (sets configs : Bool) → v ≡ Ok tt → sets ≡ every set_unused (drop st.setcount st.sets) → configs ≡ all_zero (drop st.configcount st.configs)
+    pub unused-last : (v : Result (Unit {0}) Refusal) → result_of v ≡ values_right st → is_err v ≡ false
+        → (sets configs : Bool) → sets ≡ every set_unused (drop st.setcount st.sets) → configs ≡ all_zero (drop st.configcount st.configs)
         → sets && configs ≡ some_file_gives st
     unfolding some_file_gives
-    unused-last sets configs e p q = rw (counts, ← values, e, p, q)
+    unused-last (Ok a) values e sets configs p q = rw (counts, ← values, p, q)
+    unused-last (Err r) values e sets configs p q = cc

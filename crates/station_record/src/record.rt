@@ -10,13 +10,7 @@ use station_fields::{layout, ranges};
 fn pairs_unused(numbers: [u32; layout::PAIRS]) -> bool
     ensures { result ≡ all_zero numbers }
 {
-    let mut ok = true;
-    let mut i: usize = 0;
-    while i < layout::PAIRS {
-        ok = ok & (numbers[i] == 0);
-        i += 1;
-    }
-    ok
+    numbers.iter().all(|number| *number == 0)
 }
 
 fn set_unused(g: GenSet) -> bool
@@ -37,26 +31,13 @@ fn set_unused(g: GenSet) -> bool
 fn sets_unused(sets: [GenSet; ranges::SETS_MOST], from: usize) -> bool
     ensures { result ≡ every set_unused (drop from sets) }
 {
-    let mut ok = true;
-    let mut i = from;
-    while i < ranges::SETS_MOST {
-        let g = sets[i];
-        ok = ok & set_unused(g);
-        i += 1;
-    }
-    ok
+    sets.iter().skip(from).all(|set| set_unused(*set))
 }
 
 fn configurations_unused(configs: [u8; ranges::CONFIGURATIONS_MOST], from: usize) -> bool
     ensures { result ≡ all_zero (drop from configs) }
 {
-    let mut ok = true;
-    let mut i = from;
-    while i < ranges::CONFIGURATIONS_MOST {
-        ok = ok & (configs[i] == 0);
-        i += 1;
-    }
-    ok
+    configs.iter().skip(from).all(|mask| *mask == 0)
 }
 
 pub fn some_file_gives(st: Station) -> bool
@@ -70,10 +51,9 @@ pub fn some_file_gives(st: Station) -> bool
     {
         return false;
     }
-    let verdict = values_right(st);
-    let Ok(()) = verdict else {
+    if values_right(st).is_err() {
         return false;
-    };
+    }
     let sets = st.sets;
     let configs = st.configs;
     sets_unused(sets, setcount) & configurations_unused(configs, configcount)

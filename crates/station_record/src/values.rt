@@ -7,7 +7,6 @@ ghost use Rattle.rules.specs.StationRecord.{control_right, battery_right, servic
 use rules::answers::Refusal;
 use rules::station::{Battery, Control, GenSet, Station};
 use station_fields::{layout, ranges};
-use words::arithmetic::lesser;
 use words::masks::existing_only;
 
 // A pair's load is held against the next, so the last pair has none.
@@ -91,10 +90,8 @@ fn pairs_in_range(points: u32, loads: [u32; layout::PAIRS], rates: [u32; layout:
     ensures { result ≡ all_to 5 (λ j. pair_right points j (get_or loads j 0) (get_or rates j 0)) }
 {
     let mut ok = true;
-    let mut i: usize = 0;
-    while i < layout::PAIRS {
+    for i in 0..layout::PAIRS {
         ok = ok & pair_right(points, i as u32, loads[i], rates[i]);
-        i += 1;
     }
     ok
 }
@@ -103,10 +100,8 @@ fn loads_rise(points: u32, loads: [u32; layout::PAIRS]) -> bool
     ensures { result ≡ all_to 4 (λ j. rises points j (get_or loads j 0) (get_or loads (suc j) 0)) }
 {
     let mut ok = true;
-    let mut i: usize = 0;
-    while i < RISES {
+    for i in 0..RISES {
         ok = ok & rises_at(points, i as u32, loads[i], loads[i + 1]);
-        i += 1;
     }
     ok
 }
@@ -124,18 +119,15 @@ fn pairs_right(g: GenSet) -> bool
 fn sets_right(sets: [GenSet; ranges::SETS_MOST], setcount: usize) -> Result<(), Refusal>
     ensures { result_of result ≡ sets_right 0 (take setcount sets) }
 {
-    let count = lesser(setcount, ranges::SETS_MOST);
-    let mut i: usize = 0;
-    while i < count {
+    for i in 0..setcount.min(ranges::SETS_MOST) {
         let g = sets[i];
-        i += 1;
         let numbers = set_right(g);
         let pairs = pairs_right(g);
         if !numbers {
-            return Err(Refusal::SetNumber(i as u32));
+            return Err(Refusal::SetNumber(i as u32 + 1));
         }
         if !pairs {
-            return Err(Refusal::SetPairs(i as u32));
+            return Err(Refusal::SetPairs(i as u32 + 1));
         }
     }
     Ok(())
@@ -155,13 +147,9 @@ fn configurations_right(
 ) -> Result<(), Refusal>
     ensures { result_of result ≡ configurations_right setcount 0 (take configcount configs) }
 {
-    let count = lesser(configcount, ranges::CONFIGURATIONS_MOST);
-    let mut i: usize = 0;
-    while i < count {
-        let mask = configs[i];
-        i += 1;
-        if !configuration_right(setcount, mask) {
-            return Err(Refusal::ConfigurationMask(i as u32));
+    for i in 0..configcount.min(ranges::CONFIGURATIONS_MOST) {
+        if !configuration_right(setcount, configs[i]) {
+            return Err(Refusal::ConfigurationMask(i as u32 + 1));
         }
     }
     Ok(())
@@ -180,11 +168,6 @@ pub fn values_right(st: Station) -> Result<(), Refusal>
     if !battery_right(battery) {
         return Err(Refusal::BatteryValue);
     }
-    let sets = st.sets;
-    let verdict = sets_right(sets, setcount);
-    let Ok(()) = verdict else {
-        return verdict;
-    };
-    let configs = st.configs;
-    configurations_right(configs, st.configcount, setcount)
+    sets_right(st.sets, setcount)?;
+    configurations_right(st.configs, st.configcount, setcount)
 }

@@ -1,24 +1,13 @@
 -- `station_record::record::configurations_unused` meets its contract. Assumes nothing.
 use borrow.Author.Rules.{rules}
-use mathlib.Core.Path.{refl}
-use native.Mathlib.Omega.{arith}
+use borrow.Author.Tests.{tests}
+use Rattle.std.proofs.lemmas.Iterator.{YieldsList-from_slice}
+use Rattle.std.proofs.lemmas.Iterator.Adapters.{YieldsList-from_skip}
+use Rattle.std.proofs.lemmas.Iterator.Search.{all_from_yields_List}
 use lib.Dec.{eqb}
-use lib.ListN.{drop}
-use Rattle.rules.specs.Numbers.{all_zero}
-use Rattle.rules.proofs.Tests.{every-turn, every-end}
+use Rattle.station_record.proofs.Every.{every-is-all}
 use Rattle.station_record.proofs.record.configurations_unused.Goals as goal
-
-pub loop-i-init : goal.loop-i-init
-loop-i-init c = (search rules, refl)
-
-pub loop-i-preserved : goal.loop-i-preserved
-loop-i-preserved c =
-    let a = c.args in
-    let i = c.loop-i.invariant in
-    (i.0, every-turn (λ x. eqb x 0) a.configs c.loop-i.i (all_zero (drop a.from a.configs)) c.loop-i.ok i.1 0 _ (omega (arith, i.0)) refl)
 
 pub returns : goal.returns
 returns c =
-    let a = c.args in
-    let i = c.loop-i.invariant in
-    every-end (λ x. eqb x 0) a.configs c.loop-i.i (all_zero (drop a.from a.configs)) c.loop-i.ok i.1 (omega (arith, i.0))
+    rw every-is-all (all_from_yields_List (λ x. eqb x 0) _ _ _ c.all.ensures.ran (YieldsList-from_skip c.args.from (YieldsList-from_slice c.args.configs (search rules)) (search rules)) (λ x b q k. search (rules, tests)))

@@ -1,23 +1,12 @@
 -- `station_record::record::pairs_unused` meets its contract. Assumes nothing.
 use borrow.Author.Rules.{rules}
-use mathlib.Core.Path.{refl}
-use native.Mathlib.Omega.{arith}
+use borrow.Author.Tests.{tests}
 use lib.Dec.{eqb}
-use Rattle.rules.specs.Numbers.{all_zero}
-use Rattle.rules.proofs.Tests.{every-turn, every-end}
+use Rattle.std.proofs.lemmas.Iterator.{YieldsList-from_slice}
+use Rattle.std.proofs.lemmas.Iterator.Search.{all_from_yields_List}
+use Rattle.station_record.proofs.Every.{every-is-all}
 use Rattle.station_record.proofs.record.pairs_unused.Goals as goal
-
-pub loop-i-init : goal.loop-i-init
-loop-i-init c = (omega arith, search rules, refl)
-
-pub loop-i-preserved : goal.loop-i-preserved
-loop-i-preserved c =
-    let s = c.args.numbers in
-    let i = c.loop-i.invariant in
-    (omega arith, i.1, every-turn (λ x. eqb x 0) s c.loop-i.i (all_zero s) c.loop-i.ok i.2 0 _ (omega (arith, i.1)) refl)
 
 pub returns : goal.returns
 returns c =
-    let s = c.args.numbers in
-    let i = c.loop-i.invariant in
-    every-end (λ x. eqb x 0) s c.loop-i.i (all_zero s) c.loop-i.ok i.2 (omega (arith, i.1))
+    rw every-is-all (all_from_yields_List (λ x. eqb x 0) _ _ _ c.all.ensures.ran (YieldsList-from_slice c.args.numbers (search rules)) (λ x b q k. search (rules, tests)))

@@ -1,5 +1,5 @@
 -- `station_record::values::loads_rise` meets its contract. Assumes nothing.
-use Prim.Native.Nat.{suc, ◌-◌, ◌≤◌}
+use Prim.Native.Nat.{suc, ◌≤◌}
 use mathlib.Core.Path.{◌≡◌}
 use lib.ListN.{get_or}
 use Rattle.rules.specs.Numbers.{all_to}
@@ -8,6 +8,3 @@ use Rattle.station_record.proofs.values.loads_rise.Given as goal
 
 abbrev pub invariant-loop-i : goal.invariant-loop-i
 invariant-loop-i l = (l.i ≤ 4) × (l.ok ≡ all_to l.i (λ j. rises l.points j (get_or l.loads j 0) (get_or l.loads (suc j) 0)))
-
-abbrev pub decreases-loop-i : goal.decreases-loop-i
-decreases-loop-i l = 4 - l.i
