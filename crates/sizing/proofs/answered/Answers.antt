@@ -5,5 +5,5 @@ use Rattle.sizing.proofs.answered.Goals as goal
 pub returns-in-Value : goal.returns-in-Value
 returns-in-Value c = rw c.in-Value.is
 
-pub returns-in-Refused : goal.returns-in-Refused
-returns-in-Refused c = rw c.in-Refused.is c.refused.ensures
+pub returns-in-Err : goal.returns-in-Err
+returns-in-Err c = rw c.in-Err.is c.refused.ensures

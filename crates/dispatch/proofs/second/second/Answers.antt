@@ -38,11 +38,11 @@ returns-then-not-possible c =
     let a = c.args in
     refused-owes a.st a.run a.inputs a.row.now _ (second-24 a.st a.run a.inputs (length a.row.now) (sym c.some_file_gives.ensures ∙ c.if-not-some_file_gives.false) (sym c.possible.ensures ∙ c.if-not-possible.true))
 
-pub returns-in-Refused : goal.returns-in-Refused
-returns-in-Refused c =
+pub returns-in-Err : goal.returns-in-Err
+returns-in-Err c =
     let a = c.args in
-    let judged = (goal.at.returns-in-Refused c).After-admit-verdict in
-    refused-owes a.st a.run a.inputs a.row.now _ (late-refused a.st a.run a.inputs a.row.now (file judged) (was-possible judged) _ c.admit-verdict.ensures _ c.in-Refused.is)
+    let judged = (goal.at.returns-in-Err c).After-admit-verdict in
+    refused-owes a.st a.run a.inputs a.row.now _ (late-refused a.st a.run a.inputs a.row.now (file judged) (was-possible judged) _ c.admit-verdict.ensures _ c.in-Err.is)
 
 pub returns : goal.returns
 returns c =

@@ -7,16 +7,16 @@ use Rattle.sizing.proofs.fuel.rate_asked.Goals as goal
 pub rate_of_station-requires : goal.rate_of_station-requires
 rate_of_station-requires c =
     let s = c.args.s.now in
-    record-right s c.read_station-reading.result.verdict c.read_station-reading.ensures.verdict_value _ c.read_station-reading.ensures.station_value c.in-Accepted.is
+    record-right s c.read_station-reading.result.verdict c.read_station-reading.ensures.verdict_value _ c.read_station-reading.ensures.station_value c.in-Ok.is
 
-pub returns-in-Accepted : goal.returns-in-Accepted
+pub returns-in-Ok : goal.returns-in-Ok
 unfolding rate_asked
-returns-in-Accepted c =
+returns-in-Ok c =
     let a = c.args in
-    c.rate_of_station.ensures ∙ rw (file-gives a.s.now c.read_station-reading.result.verdict c.read_station-reading.ensures.verdict_value _ c.read_station-reading.ensures.station_value c.in-Accepted.is)
+    c.rate_of_station.ensures ∙ rw (file-gives a.s.now c.read_station-reading.result.verdict c.read_station-reading.ensures.verdict_value _ c.read_station-reading.ensures.station_value c.in-Ok.is)
 
-pub returns-in-Refused : goal.returns-in-Refused
+pub returns-in-Err : goal.returns-in-Err
 unfolding rate_asked
-returns-in-Refused c =
+returns-in-Err c =
     let a = c.args in
-    rw (file-refused a.s.now c.read_station-reading.result.verdict c.read_station-reading.ensures.verdict_value _ c.in-Refused.is)
+    rw (file-refused a.s.now c.read_station-reading.result.verdict c.read_station-reading.ensures.verdict_value _ c.in-Err.is)
