@@ -12,9 +12,9 @@ returns-in-Ok c =
 pub returns-in-Err-Malformed : goal.returns-in-Err-Malformed
 returns-in-Err-Malformed c =
     let s = c.args.bytes.now in
-    ap asked_by (sym c.in-Err-Malformed.is) ∙ asked_by_lem c.time-cell.result s c.time-cell.ensures
+    ap asked_by (sym (rw c.in-Err-Malformed.field-0-is at c.in-Err-Malformed.is)) ∙ asked_by_lem c.time-cell.result s c.time-cell.ensures
 
 pub returns-in-Err-OverLimit : goal.returns-in-Err-OverLimit
 returns-in-Err-OverLimit c =
     let s = c.args.bytes.now in
-    ap asked_by (sym c.in-Err-OverLimit.is) ∙ asked_by_lem c.time-cell.result s c.time-cell.ensures
+    ap asked_by (sym (rw c.in-Err-OverLimit.field-0-is at c.in-Err-OverLimit.is)) ∙ asked_by_lem c.time-cell.result s c.time-cell.ensures
