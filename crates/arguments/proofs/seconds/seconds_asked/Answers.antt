@@ -1,4 +1,6 @@
 -- `arguments::seconds::seconds_asked` meets its contract. Assumes nothing.
+use native.Mathlib.Omega.{arith}
+use Rattle.std.proofs.lemmas.Grind.{common_steps}
 use mathlib.Core.Path.{sym, ap, ◌∙◌}
 use Rattle.arguments.proofs.AskedLaws.{asked_by, asked_by_lem}
 use Rattle.arguments.proofs.seconds.seconds_asked.Goals as goal
@@ -12,9 +14,11 @@ returns-in-Ok c =
 pub returns-in-Err-Malformed : goal.returns-in-Err-Malformed
 returns-in-Err-Malformed c =
     let s = c.args.bytes.now in
-    ap asked_by (sym (rw c.in-Err-Malformed.field-0-is at c.in-Err-Malformed.is)) ∙ asked_by_lem c.time-cell.result s c.time-cell.ensures
+    let h = asked_by_lem c.time-cell.result s c.time-cell.ensures in
+    grind (arith, common_steps, h)
 
 pub returns-in-Err-OverLimit : goal.returns-in-Err-OverLimit
 returns-in-Err-OverLimit c =
     let s = c.args.bytes.now in
-    ap asked_by (sym (rw c.in-Err-OverLimit.field-0-is at c.in-Err-OverLimit.is)) ∙ asked_by_lem c.time-cell.result s c.time-cell.ensures
+    let h = asked_by_lem c.time-cell.result s c.time-cell.ensures in
+    grind (arith, common_steps, h)
