@@ -10,8 +10,8 @@ use lib.ListN.{length}
 use borrow.Author.Tests.{lt-leb}
 use Rattle.rules.specs.declared.answers.Refusal.{Refusal}
 use Rattle.rules.specs.Numbers.{within}
-use Rattle.rules.specs.Answers.{accepted, refused, judged, value_or, result_of}
-use Rattle.rules.specs.StationRecord.{no_station, values_right}
+use Rattle.rules.specs.Answers.{accepted, refused, refusal_of, result_of}
+use Rattle.rules.specs.StationRecord.{values_right}
 use Rattle.rules.proofs.Tests.{within-fact, fact-within, over-range}
 use Rattle.rules.proofs.StationRead.{contents}
 use Rattle.rules.specs.StationFile.{count_at, configs_offset, entry_right, record_of, contents_right, station_file}
@@ -73,18 +73,18 @@ contents-fit s h =
 -- ---- the whole file: its contents, then its values
 
 module _ (s : List ℕ) (v : Result (Unit {0}) Refusal) (contents-are : result_of v ≡ contents_right s) where
-  pub contents-refused : (r : Refusal) → v ≡ Err r → (result_of v ≡ judged (station_file s)) × (no_station ≡ value_or no_station (station_file s))
+  pub contents-refused : (r : Refusal) → v ≡ Err r → refusal_of r ≡ station_file s
   unfolding station_file
-  contents-refused r e = (rw (← contents-are, e), rw (← contents-are, e))
+  contents-refused r e = rw (← contents-are, e)
 
   pub contents-passed : v ≡ Ok tt → contents_right s ≡ accepted tt
   contents-passed e = sym contents-are ∙ ap result_of e
 
   module _ (passed : v ≡ (Ok tt)) (w : Result (Unit {0}) Refusal) (values-are : result_of w ≡ values_right (record_of s)) where
-    pub values-refused : (r : Refusal) → w ≡ Err r → (result_of w ≡ judged (station_file s)) × (no_station ≡ value_or no_station (station_file s))
+    pub values-refused : (r : Refusal) → w ≡ Err r → refusal_of r ≡ station_file s
     unfolding station_file
-    values-refused r e = (rw (contents-passed passed, ← values-are, e), rw (contents-passed passed, ← values-are, e))
+    values-refused r e = rw (contents-passed passed, ← values-are, e)
 
-    pub file-read : w ≡ Ok tt → (accepted tt ≡ judged (station_file s)) × (record_of s ≡ value_or no_station (station_file s))
+    pub file-read : w ≡ Ok tt → accepted (record_of s) ≡ station_file s
     unfolding station_file
-    file-read e = (rw (contents-passed passed, ← values-are, e), rw (contents-passed passed, ← values-are, e))
+    file-read e = rw (contents-passed passed, ← values-are, e)

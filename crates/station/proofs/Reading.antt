@@ -7,6 +7,7 @@ use native.Mathlib.Nat.{not-suc-le-zero}
 use native.Mathlib.Numerals.{add-one}
 use lib.ListN.{length, take, drop, get_or, set, replicate, length-take, length-drop}
 use lib.Seq.{drop-drop, set_at, append_snoc}
+use Rattle.std.proofs.lemmas.List.{drop-replicate}
 use Rattle.rules.specs.Bytes.{little, littles}
 use Rattle.rules.specs.declared.station.GenSet.{GenSet}
 use Rattle.rules.specs.StationFile.{set_of, sets_of}
@@ -75,3 +76,21 @@ sets_more (suc n) s =
 pub byte_at : (s : List ℕ) (at : ℕ) → at < length s → get_or s at 0 ≡ little 1 (drop at s)
 unfolding little
 byte_at s at h = sym (little-turn 0 at s h ∙ (let e : get_or s at 0 + 256 * 0 ≡ get_or s at 0 = omega arith in e))
+
+-- numbers of one byte are the bytes
+littles-one : (n : ℕ) (s : List ℕ) → n ≤ length s → littles 1 n s ≡ take n s
+unfolding littles
+littles-one zero s h = refl
+littles-one (suc n) [] h = absurd (omega arith)
+littles-one (suc n) (x ∷ s) h =
+    let first : little 1 (x ∷ s) ≡ x = sym (byte_at (x ∷ s) 0 (omega arith)) in
+    rw (first, littles-one n s (omega arith))
+
+-- bytes that are copied to the front of an array of zeros
+pub littles-copied : (new s : List ℕ) (at n : ℕ) → n ≤ 64 → at + n ≤ length s → new ≡ take (at + 1 * n - at) (drop at s)
+    → new ++ drop n (replicate 64 0) ≡ littles 1 n (drop at s) ++ replicate (64 - n) 0
+littles-copied new s at n most fits copied =
+    let k : at + 1 * n - at ≡ n = omega arith in
+    let room : n ≤ length (drop at s) = simp length-drop (omega arith) in
+    let front : new ≡ littles 1 n (drop at s) = (rw k at copied) ∙ sym (littles-one n (drop at s) room) in
+    rw (front, drop-replicate)

@@ -99,11 +99,8 @@ fn sets_of(s: &[u8], setcount: usize) -> [GenSet; ranges::SETS_MOST]
 {
     let none = no_set();
     let mut sets = [none; ranges::SETS_MOST];
-    let mut i: usize = 0;
-    while i < setcount {
-        let g = set_of(s, layout::SETS_AT + layout::SET_SIZE * i);
-        sets[i] = g;
-        i += 1;
+    for i in 0..setcount {
+        sets[i] = set_of(s, layout::SETS_AT + layout::SET_SIZE * i);
     }
     sets
 }
@@ -113,11 +110,8 @@ fn configurations_of(s: &[u8], at: usize, configcount: usize) -> [u8; ranges::CO
     ensures { result ≡ littles 1 configcount (drop at s.now) ++ replicate (64 - configcount) 0 }
 {
     let mut configs = [0u8; ranges::CONFIGURATIONS_MOST];
-    let mut i: usize = 0;
-    while i < configcount {
-        configs[i] = s[at + layout::CONFIGURATION_SIZE * i];
-        i += 1;
-    }
+    let end = at + layout::CONFIGURATION_SIZE * configcount;
+    configs[..configcount].copy_from_slice(&s[at..end]);
     configs
 }
 

@@ -1,13 +1,13 @@
 // The station file as it arrives in chunks.
 ghost use Rattle.std.specs.Prelude.{◌≡◌, true, List, [], ◌++◌, ℕ};
 ghost use Rattle.rules.specs.StationFile.{station_file};
-ghost use Rattle.rules.specs.Answers.{judged, value_or, result_of};
-ghost use Rattle.rules.specs.StationRecord.{no_station};
+ghost use Rattle.rules.specs.Answers.{result_of};
 ghost use Rattle.station.specs.Stations.{station_with, too_long, is_refused};
 
-use crate::reader::{Reading, read_station};
+use crate::reader::read_station;
+use rules::answers::Refusal;
+use rules::station::Station;
 use station_fields::layout;
-use words::arithmetic::lesser;
 
 // "a file has 165 to 676 bytes": one more byte tells that it has too many.
 const MOST_HELD: usize = layout::MOST_FILE + 1;
@@ -34,31 +34,24 @@ pub fn more_station(file: StationBytes, chunk: &[u8]) -> StationBytes
     ensures { (rest : List ℕ) → station_with file (chunk.now ++ rest) ≡ station_with result rest }
 {
     let mut bytes = file.bytes;
-    let held = lesser(file.len, MOST_HELD);
+    let held = file.len.min(MOST_HELD);
     if MOST_HELD - held < chunk.len() {
         return StationBytes {
             bytes,
             len: MOST_HELD,
         };
     }
-    let mut i = 0;
-    while i < chunk.len() {
-        let at = held + i;
-        bytes[at] = chunk[i];
-        i += 1;
-    }
-    StationBytes {
-        bytes,
-        len: held + i,
-    }
+    let len = held + chunk.len();
+    bytes[held..len].copy_from_slice(chunk);
+    StationBytes { bytes, len }
 }
 
 // The file has ended: its record, or its refusal.
-pub fn station_of(file: StationBytes) -> Reading
-    ensures { (result_of result.verdict ≡ judged (station_with file [])) × (result.station ≡ value_or no_station (station_with file [])) }
+pub fn station_of(file: StationBytes) -> Result<Station, Refusal>
+    ensures { result_of result ≡ station_with file [] }
 {
     let bytes = file.bytes;
-    let len = lesser(file.len, MOST_HELD);
+    let len = file.len.min(MOST_HELD);
     read_station(&bytes[..len])
 }
 
@@ -66,12 +59,7 @@ pub fn station_of(file: StationBytes) -> Reading
 pub fn is_station_refused(file: StationBytes) -> bool
     ensures { result ≡ is_refused (station_with file []) }
 {
-    let reading = station_of(file);
-    let verdict = reading.verdict;
-    match verdict {
-        Ok(()) => false,
-        Err(_) => true,
-    }
+    station_of(file).is_err()
 }
 
 // Whether the file has more bytes than a station file may have, so that no further byte changes the answer.

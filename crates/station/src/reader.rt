@@ -1,6 +1,6 @@
 // The station file: its bytes become a record, or the first refusal.
 ghost use Rattle.std.specs.Prelude.{◌≡◌};
-ghost use Rattle.rules.specs.Answers.{judged, value_or, result_of};
+ghost use Rattle.rules.specs.Answers.{result_of};
 ghost use Rattle.rules.specs.StationRecord.{no_station};
 ghost use Rattle.rules.specs.StationFile.{station_file};
 
@@ -10,13 +10,6 @@ use crate::contents::contents_right;
 use rules::station::{Battery, Control, Station};
 use station_fields::ranges;
 use station_record::values::values_right;
-
-// The verdict on a file, and the record that it gives; where it is refused, the record of zeros.
-#[derive(Clone, Copy)]
-pub struct Reading {
-    pub verdict: Result<(), Refusal>,
-    pub station: Station,
-}
 
 pub fn no_station() -> Station
     ensures { result ≡ no_station }
@@ -50,28 +43,12 @@ pub fn no_station() -> Station
     }
 }
 
-fn refused(verdict: Result<(), Refusal>) -> Reading
-    ensures { (result.verdict ≡ verdict) × (result.station ≡ no_station) }
+// The record that a file gives, or the first refusal.
+pub fn read_station(s: &[u8]) -> Result<Station, Refusal>
+    ensures { result_of result ≡ station_file s.now }
 {
-    let station = no_station();
-    Reading { verdict, station }
-}
-
-pub fn read_station(s: &[u8]) -> Reading
-    ensures verdict_value { result_of result.verdict ≡ judged (station_file s.now) }
-    ensures station_value { result.station ≡ value_or no_station (station_file s.now) }
-{
-    let contents = contents_right(s);
-    let Ok(()) = contents else {
-        return refused(contents);
-    };
+    contents_right(s)?;
     let station = record_of(s);
-    let values = values_right(station);
-    let Ok(()) = values else {
-        return refused(values);
-    };
-    Reading {
-        verdict: Ok(()),
-        station,
-    }
+    values_right(station)?;
+    Ok(station)
 }

@@ -15,17 +15,17 @@ use Rattle.station.proofs.bodies.sets_of.Goals as goal
 
 pub loop-i-init : goal.loop-i-init
 unfolding sets_of
-loop-i-init c = (omega arith, search rules, search rules, rw c.no_set-none.ensures)
+loop-i-init c = (search rules, search rules, rw c.no_set-none.ensures)
 
 pub loop-i-preserved : goal.loop-i-preserved
 loop-i-preserved c =
     let a = c.args in
     let s = a.s.now in
     let i = c.loop-i.invariant in
-    let v = c.set_of-g.ensures ∙ ap (λ (l : List ℕ). set_of (littles 4 16 l)) (sym (drop-drop (64 * c.loop-i.i) 100 s)) in
-    (omega arith, i.1, i.2, rw (i.3, v) (row-turn (sets_of c.loop-i.i (drop 100 s)) _ _ no_set c.loop-i.i 8 (length-sets_of c.loop-i.i (drop 100 s)) (search rules) (sets_more c.loop-i.i (drop 100 s))))
+    let v = c.set_of.ensures ∙ ap (λ (l : List ℕ). set_of (littles 4 16 l)) (sym (drop-drop (64 * c.loop-i.i) 100 s)) in
+    (i.0, i.1, rw (i.2, v) (row-turn (sets_of c.loop-i.i (drop 100 s)) _ _ no_set c.loop-i.i 8 (length-sets_of c.loop-i.i (drop 100 s)) (search rules) (sets_more c.loop-i.i (drop 100 s))))
 
 pub returns : goal.returns
 returns c =
-    let e : c.loop-i.i ≡ c.args.setcount = omega (arith, c.loop-i.invariant.0) in
-    rw e at c.loop-i.invariant.3
+    let e : c.loop-i.i ≡ c.args.setcount = omega arith in
+    rw e at c.loop-i.invariant.2

@@ -8,7 +8,4 @@ use Rattle.rules.specs.StationFile.{sets_of}
 use Rattle.station.proofs.bodies.sets_of.Given as goal
 
 abbrev pub invariant-loop-i : goal.invariant-loop-i
-invariant-loop-i l = (l.i ≤ l.setcount) × (l.setcount ≤ 8) × (100 + 64 * l.setcount ≤ length l.s) × (l.sets ≡ sets_of l.i (drop 100 l.s) ++ replicate (8 - l.i) no_set)
-
-abbrev pub decreases-loop-i : goal.decreases-loop-i
-decreases-loop-i l = l.setcount - l.i
+invariant-loop-i l = (l.setcount ≤ 8) × (100 + 64 * l.setcount ≤ length l.s) × (l.sets ≡ sets_of l.i (drop 100 l.s) ++ replicate (8 - l.i) no_set)

@@ -1,11 +1,8 @@
 -- `station::chunks::station_of` meets its contract. Assumes nothing.
-use Prim.Native.Nat.{ℕ}
 use mathlib.Core.Path.{◌≡◌, sym, ap, ◌∙◌}
-use mathlib.Core.List.{List, [], ◌++◌, append-nil}
+use mathlib.Core.List.{[], ◌++◌, append-nil}
 use native.Mathlib.Omega.{arith}
 use lib.ListN.{length, take, length-take}
-use Rattle.rules.specs.Answers.{judged, value_or}
-use Rattle.rules.specs.StationRecord.{no_station}
 use Rattle.rules.specs.StationFile.{station_file}
 use Rattle.station.specs.Stations.{station_with}
 use Rattle.station.proofs.StationLaws.{held-is}
@@ -26,7 +23,7 @@ unfolding station_with
 returns c =
     let file = c.args.file in
     let size : length file.bytes ≡ 677 = c.well_formed.0.1.1.0.1.0.1 in
-    let least = c.lesser-len in
+    let least = c.min-len in
     let held = held-is file.bytes file.len least.result size least.ensures in
     let is : take least.result file.bytes ≡ take file.len file.bytes ++ [] = held ∙ sym (append-nil (take file.len file.bytes)) in
-    (c.read_station.ensures.verdict_value ∙ ap (λ (s : List ℕ). judged (station_file s)) is, c.read_station.ensures.station_value ∙ ap (λ (s : List ℕ). value_or no_station (station_file s)) is)
+    c.read_station.ensures ∙ ap station_file is
