@@ -90,14 +90,14 @@ module _ (h : Held) (r : Machine) (out out' : List ℕ) where
     unfolding RefusesLine AnswersSamples
     refuses-samples refusal is refuses g w st u j p = refuses g w u (samples-refused g.station g.samples st refusal p (ap result_of (sym is) ∙ e ∙ j.check st p)) (j.later st p)
 
-  module _ (verdict : Result (Unit {0}) Refusal) (e : result_of verdict ≡ judged (station_with h.judging.held.file [])) where
-    pub accepts-station : verdict ≡ Ok tt → AnswersSamples h out r out' → Answers h out r out'
+  module _ (read : Result Station Refusal) (e : result_of read ≡ station_with h.judging.held.file []) where
+    pub accepts-station : (st : Station) → read ≡ Ok st → AnswersSamples h out r out' → Answers h out r out'
     unfolding AnswersSamples Answers
-    accepts-station is answers g w u j =
-        let a = station-accepted (station_with h.judging.held.file []) (ap result_of (sym is) ∙ e) in
+    accepts-station st is answers g w u j =
+        let a = station-accepted (station_with h.judging.held.file []) (ap (λ (v : Result Station Refusal). judged (result_of v)) (sym is) ∙ ap judged e) in
         answers g w a.station u j (sym j.station ∙ a.is)
 
-    pub refuses-station : (refusal : Refusal) → verdict ≡ Err refusal → Refuses refusal out r out' → Answers h out r out'
+    pub refuses-station : (refusal : Refusal) → read ≡ Err refusal → Refuses refusal out r out' → Answers h out r out'
     unfolding Refuses Answers
     refuses-station refusal is refuses g w u j =
-        refuses g w u (station-refused g.station g.samples refusal (ap result_of (sym is) ∙ e ∙ ap (λ (a : Answer Station). judged a) j.station))
+        refuses g w u (station-refused g.station g.samples refusal (ap (λ (v : Result Station Refusal). judged (result_of v)) (sym is) ∙ ap judged (e ∙ j.station)))

@@ -78,10 +78,8 @@ pub(crate) fn answer(held: Held, out: &mut [u8]) -> Machine
 {
     let judging = held.judging;
     let read = judging.held;
-    let station = station_of(read.file);
-    let verdict = station.verdict;
-    match verdict {
-        Ok(()) => answer_samples(held, out),
+    match station_of(read.file) {
+        Ok(_) => answer_samples(held, out),
         Err(refusal) => refuse(held, refusal, out),
     }
 }

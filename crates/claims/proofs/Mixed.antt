@@ -8,7 +8,6 @@ use Rattle.rules.specs.declared.station.Station.{Station}
 use Rattle.rules.specs.declared.run.Run.{Run}
 use Rattle.rules.specs.RunRecord.{start_record}
 use Rattle.rules.specs.Seconds.{Seconds}
-use Rattle.station.specs.declared.reader.Reading.{Reading}
 use Rattle.records.specs.declared.start.Started.{Started}
 use Rattle.claims_rules.specs.Batches.{one, many, ManyCall, Batch, ChainedBatches, none, more, ClaimBatches}
 use Rattle.claims_rules.proofs.Batches.{OwesMany, OwesBatch, claim-batches}
@@ -36,14 +35,14 @@ batches-owe st (more {r = r} {b = b} o rest) = more (batch-owes st r b o) (batch
 
 -- ---- the theorem
 
-every-list : (file : List ℕ) (g : Reading) (s : Started) (bs : List Batch) (last : Run)
-    → ReadBy file g → g.verdict ≡ Ok tt → StartedBy g.station s → ChainedBatches (BatchBy g.station) s.run bs last
-    → FromFile file g s × ClaimBatches g.station s.run bs last
-every-list file g s bs last read accepts starts chained =
-    let b : Begun file g s = begun file g s read accepts starts in
-    let first : s.run ≡ start_record g.station = b.from-file.record-started in
-    let owed : ChainedBatches (OwesBatch g.station) s.run bs last = batches-owe g.station chained in
-    (b.from-file, rw first (claim-batches g.station b.given b.tables bs last (rw first at owed)))
+every-list : (file : List ℕ) (st : Station) (s : Started) (bs : List Batch) (last : Run)
+    → ReadBy file (Ok st) → StartedBy st s → ChainedBatches (BatchBy st) s.run bs last
+    → FromFile file st s × ClaimBatches st s.run bs last
+every-list file st s bs last read starts chained =
+    let b : Begun file st s = begun file st s read starts in
+    let first : s.run ≡ start_record st = b.from-file.record-started in
+    let owed : ChainedBatches (OwesBatch st) s.run bs last = batches-owe st chained in
+    (b.from-file, rw first (claim-batches st b.given b.tables bs last (rw first at owed)))
 
 pub mixed-demand-3 : MixedDemand3
 mixed-demand-3 = record { any-arguments = ask-nothing; every-list = every-list; lists-exist = mixed-exists }

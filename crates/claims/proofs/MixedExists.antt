@@ -13,7 +13,7 @@ use Rattle.rules.specs.Seconds.{numbers_of, WorkedSeconds, came_of}
 use Rattle.claims_rules.specs.Batches.{one, many, ManyCall, Batch, run_after, ChainedBatches, none, more}
 use Rattle.claims.specs.Functions.{ManyBy}
 use Rattle.claims.specs.Mixed.{BatchBy, LentMany, Handing, handed_to, RealisedMixed}
-use Rattle.claims.proofs.Exists.{call_of, called-by, reading_of, started_of, was_read, was-started, from-file}
+use Rattle.claims.proofs.Exists.{call_of, called-by, started_of, was_read, was-started, from-file}
 
 -- the call of many seconds of a station, a record, inputs and rows
 module _ (st : Station) (r : Run) (l : LentMany) where
@@ -64,9 +64,8 @@ pub mixed-exists : (file : List ℕ) (st : Station) → station_file file ≡ ac
 mixed-exists file st h handed =
     let m = made st (start_record st) handed in
     record {
-      reading = reading_of file st h;
+      station = st;
       was_read = was_read file st h;
-      was-accepted = refl;
       started = started_of file st h;
       was-started = was-started file st h;
       from-file = from-file file st h;

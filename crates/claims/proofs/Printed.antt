@@ -17,7 +17,6 @@ use Rattle.rules.specs.Row.{row_heading}
 use Rattle.rules.specs.Run.{seconds_asked, printed}
 use Rattle.rules.specs.Calls.{Call, Chained}
 use Rattle.rules.proofs.Start.{start-possible}
-use Rattle.station.specs.declared.reader.Reading.{Reading}
 use Rattle.records.specs.declared.start.Started.{Started}
 use Rattle.claims_rules.specs.Printed.{inputs_from, text_of, Roomy, CallsOf}
 use Rattle.claims_rules.proofs.Calls.{Owes}
@@ -35,17 +34,17 @@ first_done : (st : Station) → (start_record st).done ≡ 0
 unfolding start_record
 first_done st = refl
 
-of_calls : (station samples seconds : List ℕ) (g : Reading) (s : Started) (rows : List Sample) (n : ℕ) (calls : List Call) (last : Run)
-    → ReadBy station g → g.verdict ≡ Ok tt → StartedBy g.station s → sample_file samples ≡ accepted rows → seconds_asked seconds ≡ accepted n
-    → Chained (CalledBy g.station) s.run calls last → CallsOf rows n calls
-    → printed station samples seconds ≡ text_of g.station calls last
-of_calls station samples seconds g s rows n calls last read accepts starts sampled asked chained of =
-    let b : Begun station g s = begun station g s read accepts starts in
-    let first : s.run ≡ start_record g.station = b.from-file.record-started in
-    let owed : Chained (Owes g.station) (start_record g.station) calls last = rw first at (calls-owe g.station chained) in
-    text-is station samples seconds g.station rows n b.from-file.station-read sampled asked
+of_calls : (station samples seconds : List ℕ) (st : Station) (s : Started) (rows : List Sample) (n : ℕ) (calls : List Call) (last : Run)
+    → ReadBy station (Ok st) → StartedBy st s → sample_file samples ≡ accepted rows → seconds_asked seconds ≡ accepted n
+    → Chained (CalledBy st) s.run calls last → CallsOf rows n calls
+    → printed station samples seconds ≡ text_of st calls last
+of_calls station samples seconds st s rows n calls last read starts sampled asked chained of =
+    let b : Begun station st s = begun station st s read starts in
+    let first : s.run ≡ start_record st = b.from-file.record-started in
+    let owed : Chained (Owes st) (start_record st) calls last = rw first at (calls-owe st chained) in
+    text-is station samples seconds st rows n b.from-file.station-read sampled asked
     ∙ ap (λ (text : List ℕ). row_heading ++ text)
-    (rows-of-calls g.station b.given b.tables samples rows sampled n 0 (start-possible g.station b.given) (first_done g.station) (omega (arith, asked-most seconds n asked)) owed of.as-sampled of.roomy)
+    (rows-of-calls st b.given b.tables samples rows sampled n 0 (start-possible st b.given) (first_done st) (omega (arith, asked-most seconds n asked)) owed of.as-sampled of.roomy)
 
 -- ---- such a list exists
 

@@ -1,13 +1,13 @@
 -- What is known of a call of the station reader, of the start, of the second and of many seconds: what it was handed and what it gave, and
 -- of the two no more than the function's own contract, as the source states it, ensures. `Pre` is what that contract asks.
-use Rattle.std.specs.Prelude.{ℕ, ◌≡◌, List}
+use Rattle.std.specs.Prelude.{ℕ, ◌≡◌, List, Result}
 use borrow.Fn.Kinds as kinds
 use contract.Lifetimes.{Lfts}
 use denote.Triple.Clauses as clauses
+use Rattle.rules.specs.declared.answers.Refusal.{Refusal}
 use Rattle.rules.specs.declared.station.Station.{Station}
 use Rattle.rules.specs.declared.run.Run.{Run}
 use Rattle.rules.specs.Calls.{Call}
-use Rattle.station.specs.declared.reader.Reading.{Reading}
 use Rattle.station.proofs.reader.read_station as read
 use Rattle.records.specs.declared.start.Started.{Started}
 use Rattle.records.proofs.start.start as start
@@ -16,7 +16,7 @@ use Rattle.steady.proofs.seconds.seconds as seconds
 use Rattle.claims_rules.specs.Batches.{ManyCall}
 
 -- `station::reader::read_station` was handed a file, and gave g
-pub record ReadBy (file : List ℕ) (g : Reading) : Type 0 where
+pub record ReadBy (file : List ℕ) (g : Result Station Refusal) : Type 0 where
   pub κs : Lfts 1
   pub args : kinds.Dens κs read.Kinds.ps
   pub exit : clauses.AtExit (kinds.ended_of 1 read.Kinds.ps read.Kinds.r) κs

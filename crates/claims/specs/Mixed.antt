@@ -4,7 +4,6 @@ use Rattle.rules.specs.declared.station.Station.{Station}
 use Rattle.rules.specs.declared.run.Run.{Run}
 use Rattle.rules.specs.Answers.{accepted}
 use Rattle.rules.specs.StationFile.{station_file}
-use Rattle.station.specs.declared.reader.Reading.{Reading}
 use Rattle.records.specs.declared.start.Started.{Started}
 use Rattle.claims_rules.specs.Batches.{OneOrMany, one, many, Batch, ChainedBatches, ClaimBatches}
 use Rattle.claims.specs.Functions.{ReadBy, StartedBy, CalledBy, ManyBy, AskNothing}
@@ -31,22 +30,21 @@ handed_to (one c) = one (lent_to c)
 handed_to (many m) = many (record { inputs = m.inputs; lent = m.lent })
 
 pub record RealisedMixed (file : List ℕ) (handed : List Handing) : Type 0 where
-  pub reading : Reading
-  pub was_read : ReadBy file reading
-  pub was-accepted : reading.verdict ≡ Ok tt
+  pub station : Station
+  pub was_read : ReadBy file (Ok station)
   pub started : Started
-  pub was-started : StartedBy reading.station started
-  pub from-file : FromFile file reading started
+  pub was-started : StartedBy station started
+  pub from-file : FromFile file station started
   pub batches : List Batch
   pub last : Run
-  pub chained : ChainedBatches (BatchBy reading.station) started.run batches last
+  pub chained : ChainedBatches (BatchBy station) started.run batches last
   pub as-handed : map handed_to batches ≡ handed
 
 -- ---- the demand
 
 pub record MixedDemand3 : Type 0 where
   pub any-arguments : AskNothing
-  pub every-list : (file : List ℕ) (g : Reading) (s : Started) (batches : List Batch) (last : Run)
-      → ReadBy file g → g.verdict ≡ Ok tt → StartedBy g.station s → ChainedBatches (BatchBy g.station) s.run batches last
-      → FromFile file g s × ClaimBatches g.station s.run batches last
+  pub every-list : (file : List ℕ) (st : Station) (s : Started) (batches : List Batch) (last : Run)
+      → ReadBy file (Ok st) → StartedBy st s → ChainedBatches (BatchBy st) s.run batches last
+      → FromFile file st s × ClaimBatches st s.run batches last
   pub lists-exist : (file : List ℕ) (st : Station) → station_file file ≡ accepted st → (handed : List Handing) → RealisedMixed file handed

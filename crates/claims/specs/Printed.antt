@@ -10,7 +10,6 @@ use Rattle.rules.specs.StationFile.{station_file}
 use Rattle.rules.specs.SampleFile.{sample_file}
 use Rattle.rules.specs.Run.{seconds_asked, printed}
 use Rattle.rules.specs.Calls.{Call, Chained}
-use Rattle.station.specs.declared.reader.Reading.{Reading}
 use Rattle.records.specs.declared.start.Started.{Started}
 use Rattle.claims_rules.specs.Printed.{inputs_from, Printed, text_of, CallsOf}
 use Rattle.claims.specs.Functions.{ReadBy, StartedBy, CalledBy}
@@ -31,9 +30,9 @@ pub record PrintedDemand3 : Type 0 where
       → station_file station ≡ accepted st → sample_file samples ≡ accepted rows → seconds_asked seconds ≡ accepted n
       → Printed st rows n (printed station samples seconds)
   -- the text is the heading, the rows and the sets' lines of every list of calls of those seconds, with any buffers that have room
-  pub of_calls : (station samples seconds : List ℕ) (g : Reading) (s : Started) (rows : List Sample) (n : ℕ) (calls : List Call) (last : Run)
-      → ReadBy station g → g.verdict ≡ Ok tt → StartedBy g.station s → sample_file samples ≡ accepted rows → seconds_asked seconds ≡ accepted n
-      → Chained (CalledBy g.station) s.run calls last → CallsOf rows n calls
-      → printed station samples seconds ≡ text_of g.station calls last
+  pub of_calls : (station samples seconds : List ℕ) (st : Station) (s : Started) (rows : List Sample) (n : ℕ) (calls : List Call) (last : Run)
+      → ReadBy station (Ok st) → StartedBy st s → sample_file samples ≡ accepted rows → seconds_asked seconds ≡ accepted n
+      → Chained (CalledBy st) s.run calls last → CallsOf rows n calls
+      → printed station samples seconds ≡ text_of st calls last
   -- and there is such a list
   pub calls-exist : (station : List ℕ) (st : Station) (rows : List Sample) (n : ℕ) → station_file station ≡ accepted st → Made station rows n

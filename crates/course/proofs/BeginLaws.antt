@@ -9,7 +9,7 @@ use borrow.Author.Tests.{leb-true}
 use Rattle.rules.specs.declared.answers.Refusal.{Refusal}
 use Rattle.rules.specs.declared.run.Run.{Run}
 use Rattle.rules.specs.declared.station.Station.{Station}
-use Rattle.rules.specs.Answers.{Answer, accepted, refused, judged, value_or, number_and_place, refusal_of}
+use Rattle.rules.specs.Answers.{Answer, accepted, refused, value_or, number_and_place, refusal_of}
 use Rattle.rules.specs.StationRecord as records
 use Rattle.rules.specs.StationRecord.{no_station, some_file_gives}
 use Rattle.rules.specs.RunRecord.{most_seconds, start}
@@ -56,16 +56,16 @@ module _ (b : Begun) where
   asked-refused (accepted v) st refusal e r = absurd (let z : ◌≡◌ {A = ℕ} 0 1 = cc in omega arith)
   asked-refused (refused n p) st refusal e r = refuses refusal n p b e r
 
-  pub station-refused : (a : Answer Station) (c : Answer Span) (q : Answer ℕ) (refusal : Refusal) → refusal_of refusal ≡ judged a → Refuses (number_and_place refusal).0 (number_and_place refusal).1 b → BegunAs a c q b
+  pub station-refused : (a : Answer Station) (c : Answer Span) (q : Answer ℕ) (refusal : Refusal) → refusal_of refusal ≡ a → Refuses (number_and_place refusal).0 (number_and_place refusal).1 b → BegunAs a c q b
   station-refused (accepted st) c q refusal e r = absurd (let z : ◌≡◌ {A = ℕ} 0 1 = cc in omega arith)
   station-refused (refused n p) c q refusal e r =
       let z : refusal_of {A = ℕ} refusal ≡ refused n p = cc in
       refuses refusal n p b z r
 
-  pub samples-refused : (a : Answer Station) (c : Answer Span) (q : Answer ℕ) (refusal : Refusal) → accepted tt ≡ judged a → c ≡ refusal_of refusal → Refuses (number_and_place refusal).0 (number_and_place refusal).1 b → BegunAs a c q b
-  samples-refused (refused n p) c q refusal ok e r = absurd (let z : ◌≡◌ {A = ℕ} 0 1 = cc in omega arith)
-  samples-refused (accepted st) (accepted span) q refusal ok e r = absurd (let z : ◌≡◌ {A = ℕ} 0 1 = cc in omega arith)
-  samples-refused (accepted st) (refused n p) q refusal ok e r =
+  pub samples-refused : (a : Answer Station) (c : Answer Span) (q : Answer ℕ) (st : Station) (refusal : Refusal) → accepted st ≡ a → c ≡ refusal_of refusal → Refuses (number_and_place refusal).0 (number_and_place refusal).1 b → BegunAs a c q b
+  samples-refused (refused n p) c q st refusal ok e r = absurd (let z : ◌≡◌ {A = ℕ} 0 1 = cc in omega arith)
+  samples-refused (accepted st') (accepted span) q st refusal ok e r = absurd (let z : ◌≡◌ {A = ℕ} 0 1 = cc in omega arith)
+  samples-refused (accepted st') (refused n p) q st refusal ok e r =
       let z : refusal_of {A = ℕ} refusal ≡ refused n p = cc in
       refuses refusal n p b z r
 
@@ -73,7 +73,8 @@ module _ (b : Begun) where
   by-asked st span (accepted v) h = h
   by-asked st span (refused n p) h = h
 
-  pub all-accepted : (a : Answer Station) (c : Answer Span) (q : Answer ℕ) (st : Station) (span : Span) → accepted tt ≡ judged a → st ≡ value_or no_station a → c ≡ accepted span → AskedAs q st b → BegunAs a c q b
-  all-accepted (refused n p) c q st span ok is e h = absurd (let z : ◌≡◌ {A = ℕ} 0 1 = cc in omega arith)
-  all-accepted (accepted st') c q st span ok is e h =
+  pub all-accepted : (a : Answer Station) (c : Answer Span) (q : Answer ℕ) (st : Station) (span : Span) → accepted st ≡ a → c ≡ accepted span → AskedAs q st b → BegunAs a c q b
+  all-accepted (refused n p) c q st span ok e h = absurd (let z : ◌≡◌ {A = ℕ} 0 1 = cc in omega arith)
+  all-accepted (accepted st') c q st span ok e h =
+      let is : st ≡ st' = cc in
       subst (λ (x : Answer Span). BegunAs (accepted st') x q b) (sym e) (by-asked st' span q (subst (λ (x : Station). AskedAs q x b) is h))

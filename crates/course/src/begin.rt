@@ -77,12 +77,10 @@ fn asked_for(station: Station, asked: &[u8]) -> Begun
 pub fn course_of(file: StationBytes, checked: Result<Span, Refusal>, asked: &[u8]) -> Begun
     ensures { BegunAs (station_with file []) (result_of checked) (seconds_asked asked.now) result }
 {
-    let reading = station_of(file);
-    let station = reading.station;
-    let verdict = reading.verdict;
-    if let Err(refusal) = verdict {
-        return refused(refusal);
-    }
+    let station = match station_of(file) {
+        Ok(station) => station,
+        Err(refusal) => return refused(refusal),
+    };
     if let Err(refusal) = checked {
         return refused(refusal);
     }

@@ -115,16 +115,14 @@ fn work_station(rt: &HostRuntime, way: Way, st: Station, asked: u32) {
 }
 
 fn work_file(rt: &HostRuntime, way: Way, asked: u32, file: &[u8]) {
-    let reading = read_station(file);
-    let verdict = reading.verdict;
-    if let Err(refusal) = verdict {
-        let err = &mut rt.stderr();
-        say(err, b"measure_seconds: the station file");
-        say_refusal(err, refusal);
-        return;
+    match read_station(file) {
+        Ok(st) => work_station(rt, way, st, asked),
+        Err(refusal) => {
+            let err = &mut rt.stderr();
+            say(err, b"measure_seconds: the station file");
+            say_refusal(err, refusal);
+        }
     }
-    let st = reading.station;
-    work_station(rt, way, st, asked);
 }
 
 fn work_asked(rt: &HostRuntime, way: Way, asked: u32, file: &mut [u8]) {

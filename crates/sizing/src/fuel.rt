@@ -38,11 +38,6 @@ fn rate_of_station(st: Station, mask: u64, power: u64) -> Result<u64, Refusal>
 pub(crate) fn rate_asked(s: &[u8], mask: u64, power: u64) -> Result<u64, Refusal>
     ensures { result_of result ≡ rate_asked s.now mask power }
 {
-    let reading = read_station(s);
-    let verdict = reading.verdict;
-    let st = reading.station;
-    match verdict {
-        Ok(()) => rate_of_station(st, mask, power),
-        Err(refusal) => Err(refusal),
-    }
+    let st = read_station(s)?;
+    rate_of_station(st, mask, power)
 }

@@ -60,9 +60,10 @@ fn judged(verdict: Result<(), Refusal>) -> SizingAnswer
 pub extern "C" fn sizing_check_station(station: &[u8]) -> SizingAnswer
     ensures { result ≡ screen_verdict (station_check station.now) }
 {
-    let reading = read_station(station);
-    let verdict = reading.verdict;
-    judged(verdict)
+    match read_station(station) {
+        Ok(_) => judged(Ok(())),
+        Err(refusal) => refused(refusal),
+    }
 }
 
 // Whether a sample file is good.

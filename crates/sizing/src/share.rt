@@ -49,11 +49,6 @@ fn share_of_station(st: Station, mask: u64, power: u64, set: u64) -> Result<u64,
 pub(crate) fn share_asked(s: &[u8], mask: u64, power: u64, set: u64) -> Result<u64, Refusal>
     ensures { result_of result ≡ share_asked s.now mask power set }
 {
-    let reading = read_station(s);
-    let verdict = reading.verdict;
-    let st = reading.station;
-    match verdict {
-        Ok(()) => share_of_station(st, mask, power, set),
-        Err(refusal) => Err(refusal),
-    }
+    let st = read_station(s)?;
+    share_of_station(st, mask, power, set)
 }

@@ -1,22 +1,19 @@
 -- `sizing::share::share_asked` meets its contract. Assumes nothing.
 use mathlib.Core.Path.{◌∙◌}
+use Rattle.std.proofs.lemmas.Result.{err_from_is_err_and}
 use Rattle.rules.specs.Sizing.{share_asked}
 use Rattle.station.proofs.FileAnswers.{file-gives, record-right, file-refused}
 use Rattle.sizing.proofs.share.share_asked.Goals as goal
 
+pub returns-in_err-st : goal.returns-in_err-st
+unfolding share_asked
+returns-in_err-st c =
+    let p = err_from_is_err_and c.from_residual.result c.from_residual.ensures.1 in
+    rw (p.1, p.2, file-refused c.args.s.now c.read_station.result c.read_station.ensures _ c.in_err-st.was)
+
 pub share_of_station-requires : goal.share_of_station-requires
-share_of_station-requires c =
-    let s = c.args.s.now in
-    (record-right s c.read_station-reading.result.verdict c.read_station-reading.ensures.verdict_value _ c.read_station-reading.ensures.station_value c.in-Ok.is).0
+share_of_station-requires c = (record-right c.args.s.now c.read_station.result c.read_station.ensures _ c.in_ok-st.was).0
 
-pub returns-in-Ok : goal.returns-in-Ok
+pub returns : goal.returns
 unfolding share_asked
-returns-in-Ok c =
-    let a = c.args in
-    c.share_of_station.ensures ∙ rw (file-gives a.s.now c.read_station-reading.result.verdict c.read_station-reading.ensures.verdict_value _ c.read_station-reading.ensures.station_value c.in-Ok.is)
-
-pub returns-in-Err : goal.returns-in-Err
-unfolding share_asked
-returns-in-Err c =
-    let a = c.args in
-    rw (file-refused a.s.now c.read_station-reading.result.verdict c.read_station-reading.ensures.verdict_value _ c.in-Err.is)
+returns c = c.share_of_station.ensures ∙ rw (file-gives c.args.s.now c.read_station.result c.read_station.ensures _ c.in_ok-st.was)
