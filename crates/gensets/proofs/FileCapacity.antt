@@ -1,5 +1,5 @@
 -- A station record that some file gives: no place has more than 10,000,000 W, so its capacity is never out of range. Assumes nothing.
-use Rattle.std.specs.Prelude.{if◌then◌else◌}
+use Rattle.std.specs.Prelude.{if◌then◌else◌, Ok, Err}
 use Prim.Native.Nat.{ℕ, zero, suc, ◌≤◌}
 use mathlib.Core.Path.{◌≡◌}
 use mathlib.Core.Bool.{true}
@@ -18,8 +18,8 @@ use Rattle.rules.proofs.Tests.{both, all-at}
 use Rattle.rules.proofs.Checks.{passed}
 use Rattle.rules.proofs.StationFacts.{right_of, rating-range}
 use Rattle.words.proofs.Weighed.{weighed-most}
-use Rattle.gensets.specs.declared.share.Sharing.{Sharing}
-use Rattle.gensets.specs.Leaves.{unshared, shares_told}
+use Rattle.gensets.specs.declared.share.Unshared.{Unshared}
+use Rattle.gensets.specs.Leaves.{shares_told}
 use Rattle.gensets.proofs.SharesWalk.{rating_of}
 
 unused-none : (g : GenSet) → set_unused g ≡ true → g.rating ≡ 0
@@ -50,6 +50,6 @@ module _ (st : Station) (given : some_file_gives st ≡ true) where
   -- all the power, or it is above the capacity
   pub station-shares : (mask diesel : ℕ)
       → shares_told st.sets mask diesel
-      ≡ (if ltb (capacity st.sets mask) diesel then unshared Sharing.OverCapacity else record { sharing = Sharing.Shared; watts = tab 8 (share st.sets mask diesel) })
+      ≡ (if ltb (capacity st.sets mask) diesel then Err Unshared.OverCapacity else Ok (tab 8 (share st.sets mask diesel)))
   unfolding shares_told
   station-shares mask diesel = rw (le-ltb 80_000_000 (capacity st.sets mask) (capacity-most mask))

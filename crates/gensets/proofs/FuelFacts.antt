@@ -1,6 +1,6 @@
 -- The rate of a set, case by case: out of range for numbers that no file gives, and the rules' own rate for every set of a station
 -- that some file gives, up to twice its rating. Assumes nothing.
-use Rattle.std.specs.Prelude.{Ok, Err, Result}
+use Rattle.std.specs.Prelude.{Ok, Err}
 use mathlib.Core.Path.{◌≡◌, refl, sym}
 use mathlib.Core.Bool.{true, false}
 use Prim.Native.Nat.{ℕ, suc, ◌*◌, ◌/◌, ◌≤◌, ◌<◌}

@@ -12,8 +12,7 @@ pub record RateCall : Type 0 where
 -- the rate of an answer, and 0 where it has none
 abbrev pub per_hour : Result ℕ NoRate → ℕ
 per_hour (Ok rate) = rate
-per_hour (Err NoRate.OverTwiceRating) = 0
-per_hour (Err NoRate.OutOfRange) = 0
+per_hour (Err why) = 0
 
 -- each call at most at twice the rating, and of its answer no more is known than the contract says
 unfoldable pub Answered : GenSet → List RateCall → Type 0

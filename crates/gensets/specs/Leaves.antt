@@ -6,22 +6,22 @@ use Rattle.rules.specs.declared.station.GenSet.{GenSet}
 use Rattle.rules.specs.Numbers.{within, tab, all_hold}
 use Rattle.rules.specs.Share.{capacity, share}
 use Rattle.rules.specs.Fuel.{load_at, rate_at, lower_point, fuel_rate}
-use Rattle.gensets.specs.declared.share.Sharing.{Sharing}
-use Rattle.gensets.specs.declared.share.ShareAnswer.{ShareAnswer}
+use Rattle.gensets.specs.declared.share.Unshared.{Unshared}
 use Rattle.gensets.specs.declared.fuel.NoRate.{NoRate}
 
 -- ---- step 6: "each takes diesel x C / cap less the same at the set before"
 
--- no watts, and why
-abbrev pub unshared : Sharing → ShareAnswer
-unshared why = record { sharing = why; watts = replicate 8 0 }
-
 -- eight sets of a file have at most 80,000,000 W
-unfoldable pub shares_told : List GenSet → ℕ → ℕ → ShareAnswer
+unfoldable pub shares_told : List GenSet → ℕ → ℕ → Result (List ℕ) Unshared
 shares_told sets mask diesel =
-    if ltb 80_000_000 (capacity sets mask) then unshared Sharing.OutOfRange else
-    if ltb (capacity sets mask) diesel then unshared Sharing.OverCapacity else
-    record { sharing = Sharing.Shared; watts = tab 8 (share sets mask diesel) }
+    if ltb 80_000_000 (capacity sets mask) then Err Unshared.OutOfRange else
+    if ltb (capacity sets mask) diesel then Err Unshared.OverCapacity else
+    Ok (tab 8 (share sets mask diesel))
+
+-- the watts of an answer, and none at any place where it has none
+abbrev pub watts_of : Result (List ℕ) Unshared → List ℕ
+watts_of (Ok watts) = watts
+watts_of (Err why) = replicate 8 0
 
 -- some power that can be shared, beside the capacity
 pub record Shareable (sets : List GenSet) (mask diesel cap : ℕ) : Type 0 where

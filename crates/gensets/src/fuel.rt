@@ -9,7 +9,7 @@ use rules::station::GenSet;
 use station_fields::ranges;
 
 // Why a set has no rate at a power.
-#[derive(Clone, Copy)]
+#[derive(Clone, Copy, Debug, PartialEq, Eq)]
 pub enum NoRate {
     // the power is above twice the rating, to which the curve is followed
     OverTwiceRating,
@@ -21,11 +21,7 @@ pub enum NoRate {
 pub fn per_hour(rate: Result<u64, NoRate>) -> u64
     ensures { result ≡ per_hour rate }
 {
-    match rate {
-        Ok(burns) => burns,
-        Err(NoRate::OverTwiceRating) => 0,
-        Err(NoRate::OutOfRange) => 0,
-    }
+    rate.unwrap_or(0)
 }
 
 // The place of the lower of the two points around a power.
@@ -33,14 +29,11 @@ fn lower_point(g: GenSet, power: u32) -> usize
     requires { (2 ≤ g.points) × (g.points ≤ 5) }
     ensures { (result ≡ lower_point g power) × (suc result < g.points) }
 {
-    let loads = g.loads;
     let at = product(power, 1000);
-    let mut j = (g.points as usize) - 2;
-    while 0 < j {
-        if product(loads[j], g.rating) <= at {
+    for j in (1..g.points as usize - 1).rev() {
+        if product(g.loads[j], g.rating) <= at {
             return j;
         }
-        j -= 1;
     }
     0
 }
@@ -50,15 +43,13 @@ fn line_right(g: GenSet, j: usize) -> bool
     requires { j < 4 }
     ensures { result ≡ line_right g j }
 {
-    let loads = g.loads;
-    let rates = g.rates;
-    let next = loads[j + 1];
+    let next = g.loads[j + 1];
     (ranges::RATING_LEAST <= g.rating)
         & (g.rating <= ranges::RATING_MOST)
-        & (loads[j] < next)
+        & (g.loads[j] < next)
         & (next <= ranges::PAIR_LOAD_MOST)
-        & (rates[j] <= ranges::PAIR_RATE_MOST)
-        & (rates[j + 1] <= ranges::PAIR_RATE_MOST)
+        & (g.rates[j] <= ranges::PAIR_RATE_MOST)
+        & (g.rates[j + 1] <= ranges::PAIR_RATE_MOST)
 }
 
 // The rate at a power, of any record.

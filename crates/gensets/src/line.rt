@@ -5,7 +5,6 @@ ghost use Rattle.gensets.specs.Lines.{line_of, line_small, height_of, rate_on};
 use crate::fuel::NoRate;
 use rules::station::GenSet;
 use station_fields::ranges;
-use words::arithmetic::over_u32;
 
 // A load of at most 1,500 thousandths of a rating of at most 10,000,000 W.
 const MOST_START: u64 = 15_000_000_000;
@@ -44,14 +43,12 @@ pub fn line_of(g: GenSet, j: usize) -> Line
             second: 0,
         };
     }
-    let loads = g.loads;
-    let rates = g.rates;
-    let load = loads[j];
+    let load = g.loads[j];
     Line {
         start: product(load, g.rating),
-        width: product(g.rating, over_u32(loads[j + 1], load)),
-        first: rates[j] as u64,
-        second: rates[j + 1] as u64,
+        width: product(g.rating, g.loads[j + 1].saturating_sub(load)),
+        first: g.rates[j] as u64,
+        second: g.rates[j + 1] as u64,
     }
 }
 

@@ -2,7 +2,7 @@
 ghost use Rattle.std.specs.Prelude.{◌≡◌, ◌*◌, ◌/◌, ◌≤◌};
 ghost use Rattle.rules.specs.Numbers.{tab};
 ghost use Rattle.rules.specs.Share.{capacity, share};
-ghost use Rattle.gensets.specs.Leaves.{Shareable, shares_told};
+ghost use Rattle.gensets.specs.Leaves.{Shareable, shares_told, watts_of};
 
 use rules::station::GenSet;
 use words::masks::next_set;
@@ -10,22 +10,20 @@ use words::masks::next_set;
 // Eight sets of at most 10,000,000 W each.
 const MOST_CAPACITY: u64 = 80_000_000;
 
-// Whether a diesel power could be shared.
-#[derive(Clone, Copy)]
-pub enum Sharing {
-    // the sets take all of it
-    Shared,
+// Why a diesel power could not be shared.
+#[derive(Clone, Copy, Debug, PartialEq, Eq)]
+pub enum Unshared {
     // it is above the capacity of the sets
     OverCapacity,
     // the capacity is above what eight sets of a file have
     OutOfRange,
 }
 
-// Each place's watts, beside whether the power could be shared; all 0 where not.
-#[derive(Clone, Copy)]
-pub struct ShareAnswer {
-    pub sharing: Sharing,
-    pub watts: [u32; 8],
+// The watts themselves, and none at any place where the power could not be shared.
+pub fn watts_of(answer: Result<[u32; 8], Unshared>) -> [u32; 8]
+    ensures { result ≡ watts_of answer }
+{
+    answer.unwrap_or([0; 8])
 }
 
 // The ratings of the mask's sets, summed: eight of 32 bits at most.
@@ -36,8 +34,7 @@ pub fn capacity(sets: [GenSet; 8], mask: u32) -> u64
     let mut sum: u64 = 0;
     let mut i = next_set(mask, 0);
     while i < 8 {
-        let g = sets[i as usize];
-        sum += g.rating as u64;
+        sum += sets[i as usize].rating as u64;
         i = next_set(mask, i + 1);
     }
     sum
@@ -65,8 +62,7 @@ fn taken(sets: [GenSet; 8], mask: u32, diesel: u32, cap: u32) -> [u32; 8]
     let mut place = next_set(mask, 0);
     while place < 8 {
         let at = place as usize;
-        let g = sets[at];
-        sum += g.rating;
+        sum += sets[at].rating;
         // each less what the sets before it took: rounded alone, the shares would miss the diesel power
         let together = upto(diesel, sum, cap);
         out[at] = (together - given) as u32;
@@ -76,33 +72,20 @@ fn taken(sets: [GenSet; 8], mask: u32, diesel: u32, cap: u32) -> [u32; 8]
     out
 }
 
-// What each set of the mask takes of the diesel power.
-pub fn shares(sets: [GenSet; 8], mask: u32, diesel: u32) -> ShareAnswer
+// Each place's watts: what each set of the mask takes of the diesel power.
+pub fn shares(sets: [GenSet; 8], mask: u32, diesel: u32) -> Result<[u32; 8], Unshared>
     ensures { result ≡ shares_told sets mask diesel }
 {
     let cap = capacity(sets, mask);
     if MOST_CAPACITY < cap {
-        return ShareAnswer {
-            sharing: Sharing::OutOfRange,
-            watts: [0; 8],
-        };
+        return Err(Unshared::OutOfRange);
     }
     if cap < diesel as u64 {
-        return ShareAnswer {
-            sharing: Sharing::OverCapacity,
-            watts: [0; 8],
-        };
+        return Err(Unshared::OverCapacity);
     }
     // no power asks nothing of a set, and for any other the capacity is not 0
     if diesel == 0 {
-        return ShareAnswer {
-            sharing: Sharing::Shared,
-            watts: [0; 8],
-        };
+        return Ok([0; 8]);
     }
-    let watts = taken(sets, mask, diesel, cap as u32);
-    ShareAnswer {
-        sharing: Sharing::Shared,
-        watts,
-    }
+    Ok(taken(sets, mask, diesel, cap as u32))
 }

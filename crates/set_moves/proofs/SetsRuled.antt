@@ -16,7 +16,7 @@ use Rattle.rules.proofs.Tables.{tab-at}
 use Rattle.rules.proofs.StationFacts.{rating-range}
 use Rattle.laws.proofs.FuelMost.{rate-most}
 use Rattle.gensets.specs.Burned.{per_hour}
-use Rattle.gensets.specs.Leaves.{shares_told, rate_told}
+use Rattle.gensets.specs.Leaves.{shares_told, watts_of, rate_told}
 use Rattle.gensets.proofs.FuelFacts.{rate-known}
 use Rattle.set_moves.specs.Sized.{Small}
 use Rattle.set_moves.specs.InType.{counted_in, switched_in, commanded_all_in}
@@ -30,7 +30,7 @@ same-tab f g (suc n) h = rw (same-tab f g n (λ i l. h i (omega arith)), h n (om
 
 -- ---- 8, one set
 
-pub shared_at : (sets : List GenSet) (mask diesel i : ℕ) → capacity sets mask ≤ 80_000_000 → diesel ≤ capacity sets mask → i < 8 → get_or (shares_told sets mask diesel).watts i 0 ≡ share sets mask diesel i
+pub shared_at : (sets : List GenSet) (mask diesel i : ℕ) → capacity sets mask ≤ 80_000_000 → diesel ≤ capacity sets mask → i < 8 → get_or (watts_of (shares_told sets mask diesel)) i 0 ≡ share sets mask diesel i
 unfolding shares_told
 shared_at sets mask diesel i small most l =
     rw (le-ltb 80_000_000 (capacity sets mask) small, le-ltb (capacity sets mask) diesel most) (tab-at (share sets mask diesel) 8 i 0 l)

@@ -8,7 +8,7 @@ use Rattle.rules.specs.StationRecord.{set_at}
 use Rattle.rules.specs.Modes.{state_at}
 use Rattle.rules.specs.Commands.{command, every_on}
 use Rattle.gensets.specs.Burned.{per_hour}
-use Rattle.gensets.specs.Leaves.{shares_told, rate_told}
+use Rattle.gensets.specs.Leaves.{shares_told, watts_of, rate_told}
 
 abbrev pub in32 : ℕ → ℕ
 in32 n = n % 4_294_967_296
@@ -35,7 +35,7 @@ counted_in g s power =
 unfoldable pub counted_at : List GenSet → List SetState → ℕ → ℕ → ℕ → SetState
 counted_at sets states mask diesel i =
     if has mask i
-    then counted_in (set_at sets i) (state_at states i) (slice_index (shares_told sets mask diesel).watts i)
+    then counted_in (set_at sets i) (state_at states i) (slice_index (watts_of (shares_told sets mask diesel)) i)
     else state_at states i
 
 unfoldable pub counted_all_in : List GenSet → List SetState → ℕ → ℕ → List SetState

@@ -5,7 +5,7 @@ ghost use Rattle.gensets.specs.Leaves.{rate_told};
 ghost use Rattle.set_moves.specs.InType.{counted_in, counted_all_in};
 
 use gensets::fuel::{fuel_rate, per_hour};
-use gensets::share::shares;
+use gensets::share::{shares, watts_of};
 use rules::run::SetState;
 use rules::station::GenSet;
 use words::masks::next_set;
@@ -37,8 +37,7 @@ fn count(genset: GenSet, state: SetState, power: u32) -> SetState
 pub fn count_all(sets: [GenSet; 8], states: [SetState; 8], mask: u32, diesel: u32) -> [SetState; 8]
     ensures { result ≡ counted_all_in sets states mask diesel }
 {
-    let answer = shares(sets, mask, diesel);
-    let watts = answer.watts;
+    let watts = watts_of(shares(sets, mask, diesel));
     let mut out = states;
     let mut place = next_set(mask, 0);
     while place < 8 {

@@ -1,9 +1,10 @@
 -- "then 8 for such a mask wrong, then 19 for power above its capacity": the checks of a call one after the other, and what a mask
 -- and a power that passed them are. Assumes nothing.
-use Rattle.std.specs.Prelude.{Ok}
+use Rattle.std.specs.Prelude.{Ok, Result}
 use Prim.Native.Nat.{ℕ, suc, ◌-◌, ◌^◌, ◌≤◌, ◌<◌}
 use mathlib.Core.Path.{◌≡◌, sym, ap, ◌∙◌}
 use mathlib.Core.Bool.{Bool, true, false}
+use mathlib.Core.List.{List}
 use native.Mathlib.Omega.{arith}
 use native.Mathlib.Decide.{dec_lt}
 use native.Mathlib.Nat.{lt_of_lt_of_le}
@@ -26,8 +27,8 @@ use Rattle.rules.proofs.StationFacts.{right_of}
 use Rattle.words.specs.Masks.{next_set}
 use Rattle.words.proofs.Walk.{place}
 use Rattle.words.proofs.Weighed.{one-set-inside, one-set-weighed}
-use Rattle.gensets.specs.declared.share.ShareAnswer.{ShareAnswer}
-use Rattle.gensets.specs.Leaves.{shares_told, rate_told}
+use Rattle.gensets.specs.declared.share.Unshared.{Unshared}
+use Rattle.gensets.specs.Leaves.{shares_told, watts_of, rate_told}
 use Rattle.gensets.proofs.SharesCases.{shared}
 use Rattle.gensets.proofs.FuelFacts.{station-rate}
 use Rattle.gensets.proofs.FileCapacity.{capacity-most}
@@ -75,9 +76,9 @@ module _ (st : Station) (mask power set : ℕ) where
 
 -- the watts that `shares` hands over
 pub watts-shared : (st : Station) → some_file_gives st ≡ true → (mask power : ℕ) → power ≤ capacity st.sets mask
-    → (r : ShareAnswer) → r ≡ shares_told st.sets mask power → (i : ℕ) → i < 8 → get_or r.watts i 0 ≡ share st.sets mask power i
-watts-shared st given mask power l r e i h =
-    ap (λ (a : ShareAnswer). get_or a.watts i 0) (e ∙ sym (shared st.sets mask power (capacity-most st given mask) l))
+    → (r : Result (List ℕ) Unshared) → r ≡ shares_told st.sets mask power → (watts : List ℕ) → watts ≡ watts_of r → (i : ℕ) → i < 8 → get_or watts i 0 ≡ share st.sets mask power i
+watts-shared st given mask power l r e watts w i h =
+    ap (λ (a : List ℕ). get_or a i 0) (w ∙ ap watts_of (e ∙ sym (shared st.sets mask power (capacity-most st given mask) l)))
     ∙ tab-at (share st.sets mask power) 8 i 0 h
 
 -- ---- fuel rate: the mask's one set

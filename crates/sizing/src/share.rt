@@ -5,7 +5,7 @@ ghost use Rattle.rules.specs.Share.{capacity};
 ghost use Rattle.rules.specs.StationRecord.{some_file_gives};
 ghost use Rattle.rules.specs.Sizing.{share_asked, share_of, share_of_set};
 
-use gensets::share::{capacity, shares};
+use gensets::share::{capacity, shares, watts_of};
 use rules::answers::Refusal;
 use rules::station::Station;
 use station::reader::read_station;
@@ -16,16 +16,13 @@ fn share_of_set(st: Station, mask: u32, power: u32, set: u64) -> u64
     requires { (some_file_gives st ≡ true) × (power ≤ capacity st.sets mask) }
     ensures { result ≡ share_of_set st mask power set }
 {
-    let setcount = st.setcount;
     if set == 0 {
         return 0;
     }
-    if (setcount as u64) < set {
+    if (st.setcount as u64) < set {
         return 0;
     }
-    let sets = st.sets;
-    let shared = shares(sets, mask, power);
-    let watts = shared.watts;
+    let watts = watts_of(shares(st.sets, mask, power));
     let at = (set - 1) as usize;
     watts[at] as u64
 }

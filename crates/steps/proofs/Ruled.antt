@@ -30,7 +30,7 @@ use Rattle.rules.proofs.StationFacts.{right_of, delay-range}
 use Rattle.laws.specs.Admitted.{Admitted}
 use Rattle.laws.proofs.Share.{share-most}
 use Rattle.laws.proofs.KeptRest.{watts-small}
-use Rattle.gensets.specs.Leaves.{shares_told}
+use Rattle.gensets.specs.Leaves.{shares_told, watts_of}
 use Rattle.flows.specs.Amounts.{decided_in}
 use Rattle.commitment.specs.Choice.{Rated}
 use Rattle.commitment.proofs.Ruled.{chosen_is}
@@ -76,7 +76,7 @@ module _ (st : Station) (tables : Tables st) (caps : List ℕ) (rated : Rated st
   counted_now i = counted (set_at st.sets i) (state_at (states_now st r) i) (share st.sets (on_now st r) w.diesel i)
 
   on-counted : (i : ℕ) → i < 8 → is_on (state_at (states_now st r) i).mode ≡ true
-      → counted_in (set_at st.sets i) (state_at (states_now st r) i) (get_or (shares_told st.sets (on_now st r) w.diesel).watts i 0) ≡ counted_now i
+      → counted_in (set_at st.sets i) (state_at (states_now st r) i) (get_or (watts_of (shares_told st.sets (on_now st r) w.diesel)) i 0) ≡ counted_now i
   unfolding cap_now
   on-counted i l on =
       let right = on-right st tables r x h i l on in

@@ -12,4 +12,4 @@ pub returns : goal.returns
 unfolding line_of
 returns c =
     let s = c.before.before.before.before.before in
-    rw (lt-ltb _ 4 s.if-j-ge4.false, c.product-2.ensures, c.over_u32.ensures, c.product.ensures, add-one)
+    rw (lt-ltb _ 4 s.if-j-ge4.false, c.product-2.ensures, c.saturating_sub.ensures, c.product.ensures, add-one)

@@ -28,4 +28,4 @@ pub returns : goal.returns
 returns c =
     let s = c.args in
     let e = c.capacity-cap.ensures.value in
-    rw c.taken-watts.ensures (shared s.sets s.mask s.diesel (omega arith) (omega arith))
+    rw c.taken.ensures (shared s.sets s.mask s.diesel (omega arith) (omega arith))

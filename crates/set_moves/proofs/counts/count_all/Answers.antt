@@ -9,8 +9,7 @@ use Rattle.rules.specs.StationRecord.{past_end, set_at}
 use Rattle.rules.specs.Modes.{fresh, state_at}
 use Rattle.words.specs.Masks.{next_set}
 use Rattle.words.proofs.Walk.{Place, place, forward}
-use Rattle.gensets.specs.declared.share.ShareAnswer.{ShareAnswer}
-use Rattle.gensets.specs.Leaves.{shares_told}
+use Rattle.gensets.specs.Leaves.{shares_told, watts_of}
 use Rattle.modes.proofs.Filled.{filling-start, filling-at, filling-more, filling-whole}
 use Rattle.set_moves.specs.InType.{counted_in, counted_at, counted_all_in}
 use Rattle.set_moves.proofs.PassedBy.{to-next}
@@ -29,7 +28,7 @@ module _ (sets : List GenSet) (states : List SetState) (mask diesel : ℕ) where
   up-to-next out i l now = to-next mask (λ k. Counting sets states mask diesel k out) (passed-by out) i l now
 
   counted-more : (out : List SetState) (i : ℕ) → Place mask i → i < 8 → Counting sets states mask diesel i out → (after : SetState)
-      → after ≡ counted_in (set_at sets i) (state_at out i) (get_or (shares_told sets mask diesel).watts i 0) → Counting sets states mask diesel (next_set mask (i + 1)) (set out i after)
+      → after ≡ counted_in (set_at sets i) (state_at out i) (get_or (watts_of (shares_told sets mask diesel)) i 0) → Counting sets states mask diesel (next_set mask (i + 1)) (set out i after)
   unfolding counted_at state_at
   counted-more out i at l now after e =
       let own : get_or out i (fresh Off) ≡ get_or states i (fresh Off) = filling-at _ _ 8 i out now (fresh Off) in
@@ -38,7 +37,7 @@ module _ (sets : List GenSet) (states : List SetState) (mask diesel : ℕ) where
 pub loop-place-init : goal.loop-place-init
 loop-place-init c =
     let a = c.args in (
-      ap (λ (s : ShareAnswer). s.watts) c.shares-answer.ensures,
+      c.watts_of-watts.ensures ∙ ap watts_of c.shares.ensures,
       rw c.next_set-place.ensures (place a.mask 0 zero-le),
       rw c.next_set-place.ensures (up-to-next a.sets a.states a.mask a.diesel a.states 0 zero-le (filling-start _ _ 8 (search rules))),
     )

@@ -3,7 +3,7 @@ use Rattle.std.proofs.Common.{◌≡◌, ℕ, ◌-◌, List}
 use Rattle.rules.specs.declared.run.SetState.{SetState}
 use Rattle.rules.specs.declared.station.GenSet.{GenSet}
 use Rattle.words.proofs.Walk.{Place}
-use Rattle.gensets.specs.Leaves.{shares_told}
+use Rattle.gensets.specs.Leaves.{shares_told, watts_of}
 use Rattle.modes.proofs.Filled.{Filling}
 use Rattle.set_moves.specs.InType.{counted_at}
 use Rattle.set_moves.proofs.counts.count_all.Given as goal
@@ -14,7 +14,7 @@ Counting sets states mask diesel i out = Filling (counted_at sets states mask di
 
 abbrev pub invariant-loop-place : goal.invariant-loop-place
 invariant-loop-place l =
-    (l.watts ≡ (shares_told l.sets l.mask l.diesel).watts) × Place l.mask l.place × Counting l.sets l.initial.out l.mask l.diesel l.place l.out
+    (l.watts ≡ watts_of (shares_told l.sets l.mask l.diesel)) × Place l.mask l.place × Counting l.sets l.initial.out l.mask l.diesel l.place l.out
 
 abbrev pub decreases-loop-place : goal.decreases-loop-place
 decreases-loop-place l = 8 - l.place
