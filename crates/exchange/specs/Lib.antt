@@ -2,3 +2,4 @@
 pub mod World
 pub mod Events
 pub mod Existing
+pub mod Machines

@@ -3,3 +3,4 @@
 // actions; the page that performs them (`perform`) is the same for every program. `specs/World.antt` says what is asked of that page.
 pub mod action;
 pub mod event;
+pub mod machine;

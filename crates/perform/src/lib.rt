@@ -1,10 +1,14 @@
 #![tactic(auto)]
 // What a program asks for, performed, and what came of it. It is the same for every program. Its contract has the shape of each answer;
 // that the bytes are the files', and reach standard output, no contract can say: what is taken on trust stands in exchange/specs/World.antt.
-ghost use Rattle.std.specs.Prelude.{◌≡◌, ◌≤◌, min, length, replicate, None, IfOk};
+ghost use Rattle.std.specs.Prelude.{◌≡◌, ◌≤◌, length, map, replicate, None, IfOk, slice_index_or};
 ghost use Rattle.perform.specs.Shape.{Shaped, ShapedArgument, ShapedRead, ShapedDone};
 ghost use Rattle.exchange.specs.World.{Outside};
 
+mod named;
+pub mod turns;
+
+use crate::named::Named;
 use exchange::action::Action;
 use exchange::event::Event;
 use std::env::{Env, FillError};
@@ -13,10 +17,10 @@ use std::io::{Error, Read, Seek};
 use std::{fs, io};
 
 // How many arguments can name a file, the program's own name counted.
-const PLACES: usize = 8;
+pub const PLACES: usize = 8;
 
 // The bytes that each argument's path has in the lent paths.
-const SLOT: usize = 4096;
+pub const SLOT: usize = 4096;
 
 // The system's numbers for what it is not asked: that nothing failed, of a file that was not opened, of an argument that is not there, of
 // one that is too long for a path, and of one that is no text, as a path has to be here.
@@ -24,74 +28,73 @@ const NOTHING_FAILED: i32 = 0;
 
 const NOT_OPEN: i32 = 9;
 
-const NO_ARGUMENT: i32 = 22;
+pub(crate) const NO_ARGUMENT: i32 = 22;
 
-const TOO_LONG: i32 = 36;
+pub(crate) const TOO_LONG: i32 = 36;
 
-const NO_TEXT: i32 = 84;
+pub(crate) const NO_TEXT: i32 = 84;
 
-// Of each argument its file, where one is open, and how many bytes of its slot its path has; and the system's reason for what failed last.
+// What each argument names, and the system's reason for what failed last.
 #[derive(Drop)]
 pub struct Files<F = File> {
-    opened: [Option<F>; 8],
-    ends: [usize; 8],
+    named: [Named<F>; PLACES],
     reason: Error,
 }
 
-#[derive(Drop)]
-pub struct Performed<F = File> {
-    pub files: Files<F>,
-    pub event: Event,
-}
-
-pub fn no_files<F>() -> Files<F>
-    ensures { (result.opened ≡ replicate 8 None) × (result.ends ≡ replicate 8 0) }
-{
-    Files {
-        opened: [None, None, None, None, None, None, None, None],
-        ends: [0; 8],
-        reason: Error::from_raw_os_error(NOTHING_FAILED),
-    }
-}
-
-// The file that an argument names, where it is open.
-fn file_of<F>(files: &mut Files<F>, place: usize) -> io::Result<&mut F> {
-    if place < PLACES {
-        if let Some(file) = &mut files.opened[place] {
-            return Ok(file);
+impl<F> Files<F> {
+    pub fn new() -> Files<F>
+        ensures closed { map (λ n. n.file) result.named ≡ replicate 8 None }
+        ensures unknown { map (λ n. n.end) result.named ≡ replicate 8 0 }
+    {
+        Files {
+            named: [
+                Named::new(),
+                Named::new(),
+                Named::new(),
+                Named::new(),
+                Named::new(),
+                Named::new(),
+                Named::new(),
+                Named::new(),
+            ],
+            reason: Error::from_raw_os_error(NOTHING_FAILED),
         }
     }
-    Err(Error::from_raw_os_error(NOT_OPEN))
-}
 
-// How many bytes of its slot an argument's path has, 0 where there is none.
-pub fn path_end<F>(files: &Files<F>, place: usize) -> usize
-    ensures { result ≤ 4096 }
-{
-    if place < PLACES {
-        let end = files.ends[place];
-        if end <= SLOT {
-            return end;
+    // How many bytes of its slot an argument's path has, 0 where there is none.
+    pub fn path_end(&self, place: usize) -> usize
+        ensures within { result ≤ 4096 }
+        ensures is { result ≡ slice_index_or (map (λ n. n.end) self.now.named) place 0 }
+    {
+        self.named.get(place).map_or(0, |named| named.end)
+    }
+
+    // The system's reason for what failed last.
+    pub fn reason(&self) -> Error
+        ensures { result ≡ self.now.reason }
+    {
+        self.reason
+    }
+
+    fn done(&mut self, came: io::Result<()>) -> Event
+        ensures { ShapedDone result }
+    {
+        match came {
+            Ok(()) => Event::Done,
+            Err(reason) => {
+                self.reason = reason;
+                Event::Failed
+            }
         }
     }
-    0
-}
 
-// The system's reason for what failed last.
-pub fn reason<F>(files: &Files<F>) -> Error
-    ensures { result ≡ files.now.reason }
-{
-    files.reason
-}
-
-fn done<F>(files: &mut Files<F>, came: io::Result<()>) -> Event
-    ensures { ShapedDone result }
-{
-    match came {
-        Ok(()) => Event::Done,
-        Err(reason) => {
-            files.reason = reason;
-            Event::Failed
+    // The file that an argument names, where it is open.
+    fn file_of(&mut self, place: usize) -> io::Result<&mut F> {
+        let named = &mut self.named;
+        let named = &mut named[..];
+        match named.get_mut(place).and_then(Named::open_file) {
+            Some(file) => Ok(file),
+            None => Err(Error::from_raw_os_error(NOT_OPEN)),
         }
     }
 }
@@ -117,147 +120,90 @@ fn argument<R: Env>(rt: &R, place: usize, buf: &mut [u8]) -> Event
     }
 }
 
-// Puts an argument's bytes into its slot, and answers how many they are.
-fn path_of<R: Env>(rt: &R, place: usize, slot: &mut [u8]) -> io::Result<usize>
-    ensures { IfOk result (λ n. n ≤ length slot.new) }
-{
-    match rt.arg(place, slot) {
-        Ok(size) => Ok(size),
-        Err(FillError::TooLong) => Err(Error::from_raw_os_error(TOO_LONG)),
-        Err(FillError::NotPresent) => Err(Error::from_raw_os_error(NO_ARGUMENT)),
-    }
-}
-
-fn open_path<R: fs::Files>(rt: &R, path: &[u8]) -> io::Result<R::File> {
-    match str::from_utf8(path) {
-        Ok(path) => fs::open(rt, path),
-        Err(_) => Err(Error::from_raw_os_error(NO_TEXT)),
-    }
-}
-
-// The path stays in its slot, for whoever is told of the file. A path that is cut short would name another file.
-fn open<R: fs::Files + Env>(
-    rt: &R,
-    files: &mut Files<R::File>,
-    place: usize,
-    paths: &mut [u8],
-) -> io::Result<()> {
-    if PLACES <= place {
-        return Err(Error::from_raw_os_error(NO_ARGUMENT));
-    }
-    files.opened[place] = None;
-    files.ends[place] = 0;
-    let from = place * SLOT;
-    let to = from + SLOT;
-    if paths.len() < to {
-        return Err(Error::from_raw_os_error(TOO_LONG));
-    }
-    let end = path_of(rt, place, &mut paths[from..to])?;
-    files.ends[place] = end;
-    let past = from + end;
-    files.opened[place] = Some(open_path(rt, &paths[from..past])?);
-    Ok(())
-}
-
-fn lesser(a: usize, b: usize) -> usize
-    ensures { result ≡ min a b }
-{
-    if a < b { a } else { b }
-}
-
-// Reads into the first bytes of a part of the buffer, and answers how many they are.
-fn read_part<F: Read>(files: &mut Files<F>, place: usize, part: &mut [u8]) -> io::Result<usize>
-    ensures { IfOk result (λ n. n ≤ length part.new) }
-{
-    file_of(files, place)?.read(part)
-}
-
-// A part without room is no end of the file, and neither is a read that fails.
-fn read<F: Read>(
-    files: &mut Files<F>,
-    place: usize,
-    from: usize,
-    to: usize,
-    buf: &mut [u8],
-) -> Event
-    ensures { ShapedRead result from to buf.new × Outside from to buf.old buf.new }
-{
-    let end = lesser(to, buf.len());
-    if end <= from {
-        return Event::Failed;
-    }
-    match read_part(files, place, &mut buf[from..end]) {
-        Ok(0) => Event::End,
-        Ok(size) => Event::Read(size),
-        Err(reason) => {
-            files.reason = reason;
-            Event::Failed
+impl<F> Files<F> {
+    // Opens the file that an argument names, whose path stays in its slot.
+    fn open<R: fs::Files<File = F> + Env>(
+        &mut self,
+        rt: &R,
+        place: usize,
+        paths: &mut [u8],
+    ) -> io::Result<()> {
+        let Some(named) = self.named.get_mut(place) else {
+            return Err(Error::from_raw_os_error(NO_ARGUMENT));
+        };
+        *named = Named::new();
+        let from = place * SLOT;
+        match paths.get_mut(from..from + SLOT) {
+            Some(slot) => named.open(rt, place, slot),
+            None => Err(Error::from_raw_os_error(TOO_LONG)),
         }
     }
 }
 
-fn put_out<R: Print>(rt: &R, size: usize, out: &[u8]) -> io::Result<()> {
-    if out.len() < size {
-        return Err(Error::from_raw_os_error(NOTHING_FAILED));
+impl<F: Read> Files<F> {
+    // Reads into the first bytes of a part of the buffer, and answers how many they are.
+    fn read_part(&mut self, place: usize, part: &mut [u8]) -> io::Result<usize>
+        ensures { IfOk result (λ n. n ≤ length part.new) }
+    {
+        self.file_of(place)?.read(part)
     }
-    rt.write_all(&out[..size])
+
+    // A part without room is no end of the file, and neither is a read that fails.
+    fn read(&mut self, place: usize, from: usize, to: usize, buf: &mut [u8]) -> Event
+        ensures { ShapedRead result from to buf.new × Outside from to buf.old buf.new }
+    {
+        let end = to.min(buf.len());
+        if end <= from {
+            return Event::Failed;
+        }
+        match self.read_part(place, &mut buf[from..end]) {
+            Ok(0) => Event::End,
+            Ok(size) => Event::Read(size),
+            Err(reason) => {
+                self.reason = reason;
+                Event::Failed
+            }
+        }
+    }
 }
 
-fn write<R: Print, F>(rt: &R, files: &mut Files<F>, size: usize, out: &[u8]) -> Event
-    ensures { ShapedDone result }
-{
-    let came = put_out(rt, size, out);
-    done(files, came)
+fn write<R: Print>(rt: &R, size: usize, out: &[u8]) -> io::Result<()> {
+    match out.get(..size) {
+        Some(text) => rt.write_all(text),
+        None => Err(Error::from_raw_os_error(NOTHING_FAILED)),
+    }
 }
 
-fn sought<F: Seek>(files: &mut Files<F>, place: usize) -> io::Result<()> {
-    file_of(files, place)?.rewind()
-}
-
-fn rewind<F: Seek>(files: &mut Files<F>, place: usize) -> Event
-    ensures { ShapedDone result }
-{
-    let came = sought(files, place);
-    done(files, came)
-}
-
-fn told<F>(files: Files<F>, event: Event) -> Performed<F>
-    ensures { result.event ≡ event }
-{
-    Performed { files, event }
+impl<F: Seek> Files<F> {
+    fn rewind(&mut self, place: usize) -> io::Result<()> {
+        self.file_of(place)?.rewind()
+    }
 }
 
 // One action; `paths` has a slot of 4096 bytes for each argument's path.
 pub fn perform<R: fs::Files + Env + Print>(
     rt: &R,
-    mut files: Files<R::File>,
+    files: &mut Files<R::File>,
     action: Action,
     paths: &mut [u8],
     buf: &mut [u8],
     out: &[u8],
-) -> Performed<R::File>
-    ensures { Shaped action result.event buf.old buf.new }
+) -> Event
+    ensures { Shaped action result buf.old buf.new }
 {
     match action {
-        Action::Count => told(files, Event::Count(count(rt))),
-        Action::Argument(place) => told(files, argument(rt, place, buf)),
+        Action::Count => Event::Count(count(rt)),
+        Action::Argument(place) => argument(rt, place, buf),
         Action::Open(place) => {
-            let came = open(rt, &mut files, place, paths);
-            let event = done(&mut files, came);
-            told(files, event)
+            let came = files.open(rt, place, paths);
+            files.done(came)
         }
-        Action::Read(place, from, to) => {
-            let event = read(&mut files, place, from, to, buf);
-            told(files, event)
-        }
+        Action::Read(place, from, to) => files.read(place, from, to, buf),
         Action::Rewind(place) => {
-            let event = rewind(&mut files, place);
-            told(files, event)
+            let came = files.rewind(place);
+            files.done(came)
         }
-        Action::Write(size) => {
-            let event = write(rt, &mut files, size, out);
-            told(files, event)
-        }
-        Action::Stop(_) => told(files, Event::Failed),
+        Action::Write(size) => files.done(write(rt, size, out)),
+        Action::Stop(_) => Event::Failed,
     }
 }
