@@ -1,3 +1,4 @@
--- Laws of masks and of tables that a loop builds place by place.
+-- Laws of masks, and of tables that are made place by place.
 pub mod MaskLaws
 pub mod Filled
+pub mod MadeByPlace

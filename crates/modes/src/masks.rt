@@ -1,17 +1,28 @@
 // Steps 2 and 10: the mask of the sets On, and of those that bar a configuration from being usable.
-ghost use Rattle.std.specs.Prelude.{◌≡◌, ◌||◌, ◌<◌, if◌then◌else◌};
+ghost use Rattle.std.specs.Prelude.{◌≡◌, ◌||◌, ◌<◌, false, get_or};
+ghost use Rattle.rules.specs.Numbers.{mask_of};
 ghost use Rattle.rules.specs.Modes.{due, in_service, on_mask};
 ghost use Rattle.modes.specs.Barred.{barred_mask};
 
 use crate::mode::{in_service, is_due, is_on};
 use rules::run::SetState;
 use rules::station::GenSet;
+use std::array::from_fn;
 
-// What a set adds to a mask, of its bit's weight.
-fn weighed(there: bool, weight: u32) -> u32
-    ensures { result ≡ (if there then weight else 0) }
+// The mask of the places that are marked.
+fn mask_of(marks: [bool; 8]) -> u32
+    ensures value { result ≡ mask_of 8 (λ i. get_or marks i false) }
+    ensures upper_bound { result < 256 }
 {
-    if there { weight } else { 0 }
+    let mut mask = 0;
+    let mut weight = 1;
+    for is_marked in marks {
+        if is_marked {
+            mask += weight;
+        }
+        weight *= 2;
+    }
+    mask
 }
 
 // "Row shows their mask": the sets On.
@@ -19,24 +30,13 @@ pub fn on_mask(states: [SetState; 8]) -> u32
     ensures value { result ≡ on_mask states }
     ensures upper_bound { result < 256 }
 {
-    let mut mask: u32 = 0;
-    let mut weight: u32 = 1;
-    let mut i: usize = 0;
-    while i < 8 {
-        let state = states[i];
-        let mode = state.mode;
-        mask += weighed(is_on(mode), weight);
-        weight *= 2;
-        i += 1;
-    }
-    mask
+    mask_of(from_fn(|i| is_on(states[i].mode)))
 }
 
 fn is_barred(genset: GenSet, state: SetState) -> bool
     ensures { result ≡ (due genset state || in_service state.mode) }
 {
-    let mode = state.mode;
-    is_due(genset, state) | in_service(mode)
+    is_due(genset, state) | in_service(state.mode)
 }
 
 // The sets that are due or in Service: a configuration with one of them is not usable.
@@ -44,15 +44,5 @@ pub fn barred_mask(sets: [GenSet; 8], states: [SetState; 8]) -> u32
     ensures value { result ≡ barred_mask sets states }
     ensures upper_bound { result < 256 }
 {
-    let mut mask: u32 = 0;
-    let mut weight: u32 = 1;
-    let mut i: usize = 0;
-    while i < 8 {
-        let genset = sets[i];
-        let state = states[i];
-        mask += weighed(is_barred(genset, state), weight);
-        weight *= 2;
-        i += 1;
-    }
-    mask
+    mask_of(from_fn(|i| is_barred(sets[i], states[i])))
 }

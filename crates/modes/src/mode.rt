@@ -5,40 +5,23 @@ ghost use Rattle.rules.specs.Modes.{is_on, is_off, in_service, due};
 use rules::run::{Mode, SetState};
 use rules::station::GenSet;
 
+// A set Warming gives no power yet.
 pub fn is_on(mode: Mode) -> bool
     ensures { result ≡ is_on mode }
 {
-    match mode {
-        Mode::Off => false,
-        Mode::Warming(_) => false, // it gives no power yet
-        Mode::On => true,
-        Mode::Cooling(_) => false,
-        Mode::Service(_) => false,
-    }
+    matches!(mode, Mode::On)
 }
 
 pub fn is_off(mode: Mode) -> bool
     ensures { result ≡ is_off mode }
 {
-    match mode {
-        Mode::Off => true,
-        Mode::Warming(_) => false,
-        Mode::On => false,
-        Mode::Cooling(_) => false,
-        Mode::Service(_) => false,
-    }
+    matches!(mode, Mode::Off)
 }
 
 pub fn in_service(mode: Mode) -> bool
     ensures { result ≡ in_service mode }
 {
-    match mode {
-        Mode::Off => false,
-        Mode::Warming(_) => false,
-        Mode::On => false,
-        Mode::Cooling(_) => false,
-        Mode::Service(_) => true,
-    }
+    matches!(mode, Mode::Service(_))
 }
 
 // Whether the set has run its service interval; an interval of 0 is never run.

@@ -5,26 +5,22 @@ ghost use Rattle.rules.specs.Modes.{with_mode, tick, ticked};
 use crate::mode::is_due;
 use rules::run::{Mode, SetState};
 use rules::station::GenSet;
+use std::array::from_fn;
 
 fn with_mode(state: SetState, mode: Mode, clock: u32) -> SetState
     ensures { result ≡ with_mode state mode clock }
 {
     SetState {
         mode,
-        run: state.run,
         clock,
-        starts: state.starts,
-        stops: state.stops,
-        energy: state.energy,
-        fuel: state.fuel,
+        ..state
     }
 }
 
 fn tick(genset: GenSet, state: SetState) -> SetState
     ensures { result ≡ tick genset state }
 {
-    let mode = state.mode;
-    match mode {
+    match state.mode {
         Mode::Off => state,
         Mode::Warming(left) => {
             if left <= 1 {
@@ -58,13 +54,5 @@ fn tick(genset: GenSet, state: SetState) -> SetState
 pub fn tick_all(sets: [GenSet; 8], states: [SetState; 8]) -> [SetState; 8]
     ensures { result ≡ ticked sets states }
 {
-    let mut out = states;
-    let mut i: usize = 0;
-    while i < 8 {
-        let genset = sets[i];
-        let state = out[i];
-        out[i] = tick(genset, state);
-        i += 1;
-    }
-    out
+    from_fn(|i| tick(sets[i], states[i]))
 }

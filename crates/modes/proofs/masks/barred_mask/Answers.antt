@@ -1,39 +1,21 @@
--- `modes::masks::barred_mask` meets its contract: the loop builds the mask of the sets that are due or in Service. Assumes nothing.
+-- `modes::masks::barred_mask` meets its contract. Assumes nothing.
+use mathlib.Core.Path.{◌≡◌, ap, ◌∙◌}
+use mathlib.Core.Bool.{Bool, false}
+use mathlib.Core.List.{List}
+use lib.ListN.{get_or}
 use borrow.Author.Rules.{rules}
-use native.Mathlib.Omega.{arith}
+use Rattle.rules.specs.Numbers.{tab}
 use Rattle.rules.specs.StationRecord.{past_end, set_at}
 use Rattle.rules.specs.Modes.{state_at}
 use Rattle.modes.specs.Barred.{barred, barred_mask}
-use Rattle.modes.proofs.MaskLaws.{built-start, built-small, built-room, built-turn, built-end}
+use Rattle.rules.proofs.Tables.{tab-at}
+use Rattle.modes.proofs.MaskLaws.{same-mask}
+use Rattle.modes.proofs.MadeByPlace.{made}
 use Rattle.modes.proofs.masks.barred_mask.Goals as goal
 
-pub loop-i-init : goal.loop-i-init
-loop-i-init c = built-start (barred c.args.sets c.args.states)
-
-pub overflow_add-mask : goal.overflow_add-mask
-unfolding barred set_at state_at past_end
-overflow_add-mask c =
-    let at = c.before.before.before.before.before in
-    let p = barred at.args.sets at.args.states in
-    let b = at.loop-i.invariant in
-    omega (arith, built-room p at.loop-i.i at.loop-i.weight at.loop-i.mask b _ _ c.is_barred.ensures c.weighed-mask.ensures)
-
-pub overflow_mul-weight : goal.overflow_mul-weight
-overflow_mul-weight c =
-    let at = c.before.before.before.before.before in
-    omega (arith, built-small (barred at.args.sets at.args.states) at.loop-i.i at.loop-i.weight at.loop-i.mask at.loop-i.invariant)
-
-pub loop-i-preserved : goal.loop-i-preserved
-unfolding barred set_at state_at past_end
-loop-i-preserved c =
-    let at = c.before.before.before.before.before in
-    let p = barred at.args.sets at.args.states in
-    let b = at.loop-i.invariant in
-    built-turn p at.loop-i.i at.loop-i.weight at.loop-i.mask b _ _ c.is_barred.ensures c.weighed-mask.ensures (search rules)
-
-pub returns : goal.returns
-unfolding barred_mask
-returns c =
-    let at = c.before in
-    let given = built-end (barred at.args.sets at.args.states) at.loop-i.i at.loop-i.weight at.loop-i.mask at.loop-i.invariant (omega arith) in
-    record { value = given.0; upper_bound = given.1 }
+pub returns-clause-value : goal.returns-clause-value
+unfolding barred_mask barred set_at state_at past_end
+returns-clause-value c =
+    let p = barred c.args.sets c.args.states in
+    let marks : c.from_fn.result ≡ tab 8 p = made _ _ 8 p (λ i y q l called. search rules) _ c.from_fn.ensures.items in
+    c.mask_of.ensures.value ∙ same-mask (λ i. get_or c.from_fn.result i false) p 8 (λ i l. ap (λ (m : List Bool). get_or m i false) marks ∙ tab-at p 8 i false l)
