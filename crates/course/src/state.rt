@@ -41,13 +41,14 @@ pub struct Moved {
 }
 
 // The run goes on after seconds that were all worked, and breaks off where one was refused.
-pub fn halt_for(ended: Ended) -> Halt
-    ensures { result ≡ halt_for ended }
-{
-    match ended {
-        Ended::AllWorked => Halt::Further,
-        Ended::NoRoom => Halt::Further,
-        Ended::BeforeRefused => Halt::Broken,
+impl From<Ended> for Halt {
+    ghost from_gives = { λ ended halt. halt ≡ halt_for ended };
+
+    fn from(ended: Ended) -> Halt {
+        match ended {
+            Ended::AllWorked | Ended::NoRoom => Halt::Further,
+            Ended::BeforeRefused => Halt::Broken,
+        }
     }
 }
 
@@ -55,16 +56,14 @@ pub fn halt_for(ended: Ended) -> Halt
 pub fn set_count(course: Course) -> usize
     ensures { result ≡ course.station.setcount }
 {
-    let station = course.station;
-    station.setcount
+    course.station.setcount
 }
 
 // The sets as the seconds worked have left them.
 pub fn set_states(course: Course) -> [SetState; 8]
     ensures { result ≡ course.run.sets }
 {
-    let run = course.run;
-    run.sets
+    course.run.sets
 }
 
 // How many seconds are still to be worked.
@@ -78,6 +77,5 @@ pub fn seconds_to_work(course: Course) -> u32
 pub fn seconds_worked(course: Course) -> u32
     ensures { result ≡ course.run.done }
 {
-    let run = course.run;
-    run.done
+    course.run.done
 }
