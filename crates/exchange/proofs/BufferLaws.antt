@@ -74,3 +74,7 @@ module _ (from n : ℕ) (bytes before : List ℕ) (there : n ≤ length bytes) (
 -- what was there is what was put, and then the rest
 pub part-then-rest : (n : ℕ) (bytes part : List ℕ) → part ≡ take n bytes → bytes ≡ part ++ drop n bytes
 part-then-rest n bytes part e = sym (take-append-drop n bytes) ∙ ap (λ (l : List ℕ). l ++ drop n bytes) (sym e)
+
+-- the first bytes, as the library's `get` has them
+pub first-bytes : (n : ℕ) (bytes part : List ℕ) → part ≡ take (n - 0) (drop 0 bytes) → part ≡ take n bytes
+first-bytes n bytes part e = let same : n - 0 ≡ n = omega arith in e ∙ ap (λ (k : ℕ). take k bytes) same

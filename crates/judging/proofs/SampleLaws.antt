@@ -24,7 +24,7 @@ use Rattle.exchange.specs.declared.event.Event.{Event}
 use Rattle.exchange.specs.World.{World, left_of, again_of, with_file}
 use Rattle.judging.specs.declared.state.JudgeStage.{JudgeStage}
 use Rattle.judging.specs.declared.state.Held.{Held}
-use Rattle.judging.specs.declared.state.Judging.{Judging}
+use Rattle.judging.specs.Stages.{Judging}
 use Rattle.judging.specs.Holds.{Files, Checking, JudgesFrom, EntersSamples}
 use Rattle.judging.proofs.StopLaws.{less-left}
 

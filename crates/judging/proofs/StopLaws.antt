@@ -13,7 +13,7 @@ use Rattle.exchange.specs.World.{World, buffer_end, Fits, after}
 use Rattle.exchange.proofs.Expected.{is_expected, unexpected, read-within}
 use Rattle.judging.specs.declared.state.JudgeStage.{JudgeStage}
 use Rattle.judging.specs.declared.state.Held.{Held}
-use Rattle.judging.specs.declared.state.Judging.{Judging}
+use Rattle.judging.specs.Stages.{Judging}
 use Rattle.judging.specs.Stages.{judge_asks, stopping}
 use Rattle.judging.specs.Holds.{Files, judge_steps_at, Nearer, JudgesFrom}
 

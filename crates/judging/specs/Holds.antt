@@ -14,7 +14,7 @@ use Rattle.exchange.specs.Existing.{is_failed}
 use Rattle.exchange.specs.World.{World, left_in, again_in, left_of, again_of, Fits, after}
 use Rattle.judging.specs.declared.state.JudgeStage.{JudgeStage}
 use Rattle.judging.specs.declared.state.Held.{Held}
-use Rattle.judging.specs.declared.state.Judging.{Judging}
+use Rattle.judging.specs.Stages.{Judging}
 use Rattle.judging.specs.Stages.{judge_asks, is_stopped}
 
 -- the files as they are read

@@ -7,7 +7,12 @@ use Rattle.exchange.specs.declared.event.Event.{Event}
 use Rattle.exchange.specs.World.{buffer_end}
 use Rattle.judging.specs.declared.state.JudgeStage.{JudgeStage}
 use Rattle.judging.specs.declared.state.Held.{Held}
-use Rattle.judging.specs.declared.state.Judging.{Judging}
+use Rattle.exchange.specs.declared.machine.Machine.{Machine}
+use Rattle.exchange.specs.Machines.{standing}
+use Rattle.exchange.specs.Machines as machines
+
+abbrev pub Judging : Type 0
+Judging = Machine JudgeStage Held
 
 abbrev pub judge_asks : JudgeStage → Action
 judge_asks JudgeStage.OpenStation = Action.Open 1
@@ -29,15 +34,11 @@ is_stopped JudgeStage.Judged = false
 is_stopped (JudgeStage.Stopped why) = true
 
 abbrev pub stopping : Held → Why → Judging
-stopping h why = record { stage = JudgeStage.Stopped why; held = h }
+stopping h why = standing (JudgeStage.Stopped why) h
 
 -- what was asked for was done, or not
 abbrev pub moved_by : Event → Held → JudgeStage → Why → Judging
-moved_by Event.Done h next why = record { stage = next; held = h }
-moved_by (Event.Count n) h next why = stopping h Why.Broken
-moved_by (Event.Read n) h next why = stopping h Why.Broken
-moved_by Event.End h next why = stopping h Why.Broken
-moved_by Event.Failed h next why = stopping h why
+moved_by e h next why = machines.moved_by JudgeStage.Stopped e h next (JudgeStage.Stopped why)
 
 -- the sample file is open: a program that reads it twice goes back to its start first
 abbrev pub opened_by : Bool → Event → Held → Judging

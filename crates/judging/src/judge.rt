@@ -4,7 +4,7 @@ ghost use Rattle.judging.specs.Stages.{opened_by};
 ghost use Rattle.judging.specs.Holds.{Begins, JudgesFrom};
 
 use crate::reading::{samples_read, station_read};
-use crate::state::{Held, JudgeStage, Judging, SAMPLES, STATION, moved, stopped};
+use crate::state::{Held, JudgeStage, Judging, SAMPLES, STATION};
 use exchange::action::Why;
 use exchange::event::Event;
 use samples::check::check;
@@ -31,10 +31,12 @@ pub fn judging(twice: bool) -> Judging
 fn opened(held: Held, event: Event) -> Judging
     ensures { result ≡ opened_by held.twice event held }
 {
+    let unopened = JudgeStage::Stopped(Why::Unopened(SAMPLES));
     if held.twice {
-        return moved(held, event, JudgeStage::ToStart, Why::Unopened(SAMPLES));
+        Judging::moved(held, event, JudgeStage::ToStart, unopened)
+    } else {
+        Judging::moved(held, event, JudgeStage::ReadSamples, unopened)
     }
-    moved(held, event, JudgeStage::ReadSamples, Why::Unopened(SAMPLES))
 }
 
 // `buf` is lent to be read.
@@ -42,19 +44,22 @@ pub fn judge(judging: Judging, event: Event, buf: &[u8]) -> Judging
     ensures { JudgesFrom judging.stage judging.held event buf.now result }
 {
     let held = judging.held;
-    let stage = judging.stage;
-    match stage {
-        JudgeStage::OpenStation => moved(
+    match judging.stage {
+        JudgeStage::OpenStation => Judging::moved(
             held,
             event,
             JudgeStage::ReadStation,
-            Why::Unopened(STATION),
+            JudgeStage::Stopped(Why::Unopened(STATION)),
         ),
         JudgeStage::ReadStation => station_read(held, event, buf),
         JudgeStage::OpenSamples => opened(held, event),
-        JudgeStage::ToStart => moved(held, event, JudgeStage::ReadSamples, Why::ReadOnce(SAMPLES)),
+        JudgeStage::ToStart => Judging::moved(
+            held,
+            event,
+            JudgeStage::ReadSamples,
+            JudgeStage::Stopped(Why::ReadOnce(SAMPLES)),
+        ),
         JudgeStage::ReadSamples => samples_read(held, event, buf),
-        JudgeStage::Judged => stopped(held, Why::Broken),
-        JudgeStage::Stopped(_) => stopped(held, Why::Broken),
+        JudgeStage::Judged | JudgeStage::Stopped(_) => Judging::stopped(held, Why::Broken),
     }
 }

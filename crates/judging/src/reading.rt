@@ -2,7 +2,7 @@
 ghost use Rattle.judging.specs.Holds.{EndsStation, EntersStation, EntersSamples, JudgesFrom};
 ghost use Rattle.judging.specs.declared.state.JudgeStage.{JudgeStage};
 
-use crate::state::{Held, JudgeStage, Judging, SAMPLES, STATION, stopped};
+use crate::state::{Held, JudgeStage, Judging, SAMPLES, STATION};
 use exchange::action::Why;
 use exchange::event::Event;
 use samples::check::{feed, is_refused};
@@ -16,16 +16,12 @@ const MOST_STATION: usize = 4096;
 fn station_judged(held: Held) -> Judging
     ensures { EndsStation held result }
 {
-    if is_station_refused(held.file) {
-        return Judging {
-            stage: JudgeStage::Judged,
-            held,
-        };
-    }
-    Judging {
-        stage: JudgeStage::OpenSamples,
-        held,
-    }
+    let stage = if is_station_refused(held.file) {
+        JudgeStage::Judged
+    } else {
+        JudgeStage::OpenSamples
+    };
+    Judging { stage, held }
 }
 
 // With the bytes that came, as far as they count.
@@ -44,21 +40,13 @@ fn station_chunk(held: Held, chunk: &[u8]) -> Judging
 {
     let file = more_station(held.file, chunk);
     let size = more_bytes(held.size, chunk.len());
-    let mut h = held;
-    h.file = file;
-    h.size = size;
-    if size < MOST_STATION {
-        return Judging {
-            stage: JudgeStage::ReadStation,
-            held: h,
-        };
-    }
-    if is_too_long(file) {
-        return station_judged(h);
+    let held = Held { file, size, ..held };
+    if size >= MOST_STATION && is_too_long(file) {
+        return station_judged(held);
     }
     Judging {
         stage: JudgeStage::ReadStation,
-        held: h,
+        held,
     }
 }
 
@@ -66,16 +54,13 @@ pub(crate) fn station_read(held: Held, event: Event, buf: &[u8]) -> Judging
     ensures { JudgesFrom JudgeStage.ReadStation held event buf.now result }
 {
     match event {
-        Event::Read(n) => {
-            if buf.len() < n {
-                return stopped(held, Why::Broken);
-            }
-            station_chunk(held, &buf[..n])
-        }
+        Event::Read(n) => match buf.get(..n) {
+            Some(chunk) => station_chunk(held, chunk),
+            None => Judging::stopped(held, Why::Broken),
+        },
         Event::End => station_judged(held),
-        Event::Done => stopped(held, Why::Broken),
-        Event::Count(_) => stopped(held, Why::Broken),
-        Event::Failed => stopped(held, Why::Unread(STATION)),
+        Event::Failed => Judging::stopped(held, Why::Unread(STATION)),
+        Event::Done | Event::Count(_) => Judging::stopped(held, Why::Broken),
     }
 }
 
@@ -85,18 +70,20 @@ fn samples_chunk(held: Held, chunk: &[u8]) -> Judging
 {
     let check = feed(held.check, chunk);
     let tally = tallied(held.tally, chunk);
-    let mut h = held;
-    h.check = check;
-    h.tally = tally;
+    let held = Held {
+        check,
+        tally,
+        ..held
+    };
     if is_refused(check) {
         return Judging {
             stage: JudgeStage::Judged,
-            held: h,
+            held,
         };
     }
     Judging {
         stage: JudgeStage::ReadSamples,
-        held: h,
+        held,
     }
 }
 
@@ -104,18 +91,15 @@ pub(crate) fn samples_read(held: Held, event: Event, buf: &[u8]) -> Judging
     ensures { JudgesFrom JudgeStage.ReadSamples held event buf.now result }
 {
     match event {
-        Event::Read(n) => {
-            if buf.len() < n {
-                return stopped(held, Why::Broken);
-            }
-            samples_chunk(held, &buf[..n])
-        }
+        Event::Read(n) => match buf.get(..n) {
+            Some(chunk) => samples_chunk(held, chunk),
+            None => Judging::stopped(held, Why::Broken),
+        },
         Event::End => Judging {
             stage: JudgeStage::Judged,
             held,
         },
-        Event::Done => stopped(held, Why::Broken),
-        Event::Count(_) => stopped(held, Why::Broken),
-        Event::Failed => stopped(held, Why::Unread(SAMPLES)),
+        Event::Failed => Judging::stopped(held, Why::Unread(SAMPLES)),
+        Event::Done | Event::Count(_) => Judging::stopped(held, Why::Broken),
     }
 }

@@ -1,9 +1,10 @@
 // Where the reading of both files stands between two actions.
 ghost use Rattle.std.specs.Prelude.{◌≡◌};
-ghost use Rattle.judging.specs.Stages.{judge_asks, stopping, moved_by};
+ghost use Rattle.judging.specs.declared.state.JudgeStage.{JudgeStage};
+ghost use Rattle.judging.specs.Stages.{judge_asks};
 
 use exchange::action::{Action, BUFFER_END, Why, Word};
-use exchange::event::Event;
+use exchange::machine::{Machine, Stage};
 use samples::check::SampleCheck;
 use station::chunks::StationBytes;
 use tally::Tally;
@@ -41,10 +42,14 @@ pub struct Held {
     pub tally: Tally,
 }
 
-#[derive(Clone, Copy)]
-pub struct Judging {
-    pub stage: JudgeStage,
-    pub held: Held,
+pub type Judging = Machine<JudgeStage, Held>;
+
+impl Stage for JudgeStage {
+    ghost stop_at = { JudgeStage.Stopped };
+
+    fn stop(why: Why) -> JudgeStage {
+        JudgeStage::Stopped(why)
+    }
 }
 
 // What is to be done next.
@@ -59,27 +64,5 @@ pub fn judge_asks(stage: JudgeStage) -> Action
         JudgeStage::ReadSamples => Action::Read(SAMPLES, 0, BUFFER_END),
         JudgeStage::Judged => Action::Stop(Word::Nothing(Why::Broken)),
         JudgeStage::Stopped(why) => Action::Stop(Word::Nothing(why)),
-    }
-}
-
-pub(crate) fn stopped(held: Held, why: Why) -> Judging
-    ensures { result ≡ stopping held why }
-{
-    Judging {
-        stage: JudgeStage::Stopped(why),
-        held,
-    }
-}
-
-// Where what was asked for was done, what comes next.
-pub(crate) fn moved(held: Held, event: Event, next: JudgeStage, why: Why) -> Judging
-    ensures { result ≡ moved_by event held next why }
-{
-    match event {
-        Event::Done => Judging { stage: next, held },
-        Event::Count(_) => stopped(held, Why::Broken),
-        Event::Read(_) => stopped(held, Why::Broken),
-        Event::End => stopped(held, Why::Broken),
-        Event::Failed => stopped(held, why),
     }
 }

@@ -7,5 +7,5 @@ use Rattle.judging.proofs.judge.opened.Goals as goal
 pub returns-then-held : goal.returns-then-held
 returns-then-held c = c.moved.ensures ∙ ap (λ (b : Bool). opened_by b c.args.event c.args.held) (sym c.if-held.true)
 
-pub returns : goal.returns
-returns c = c.moved-2.ensures ∙ ap (λ (b : Bool). opened_by b c.args.event c.args.held) (sym c.if-held.false)
+pub returns-else-held : goal.returns-else-held
+returns-else-held c = c.moved-else-held.ensures ∙ ap (λ (b : Bool). opened_by b c.args.event c.args.held) (sym c.if-held.false)

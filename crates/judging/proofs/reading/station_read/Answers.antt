@@ -2,28 +2,31 @@
 use Rattle.judging.proofs.StationLaws.{station-read-steps, station-end-steps}
 use Rattle.judging.specs.declared.state.JudgeStage.{JudgeStage}
 use Rattle.judging.proofs.StopLaws.{stop-steps, short-stop, at-event}
-use lib.ListN.{length-take}
-use native.Mathlib.Omega.{arith}
+use Rattle.std.proofs.Common.{rules}
+use Rattle.exchange.proofs.BufferLaws.{first-bytes}
+use mathlib.Core.Logic.{inl, inr}
 use mathlib.Core.Path.{refl}
 use Rattle.judging.proofs.reading.station_read.Goals as goal
-
-pub returns-then-buf-n : goal.returns-then-buf-n
-returns-then-buf-n c = short-stop JudgeStage.ReadStation 1 c.args.held c.args.event _ c.args.buf.now _ _ refl c.stopped.ensures c.in-Read.is c.if-buf-n.true
-
-pub slice_bounds-station_chunk-end : goal.slice_bounds-station_chunk-end
-slice_bounds-station_chunk-end c = simp length-take (omega arith)
-
-pub returns-else-buf-n : goal.returns-else-buf-n
-returns-else-buf-n c = at-event JudgeStage.ReadStation c.args.held c.args.event _ c.args.buf.now _ c.in-Read.is (station-read-steps c.args.held _ c.args.buf.now _ _ refl c.station_chunk.ensures)
 
 pub returns-in-End : goal.returns-in-End
 returns-in-End c = at-event JudgeStage.ReadStation c.args.held c.args.event _ c.args.buf.now _ c.in-End.is (station-end-steps c.args.held c.args.buf.now _ c.station_judged.ensures)
 
 pub returns-in-Done : goal.returns-in-Done
-returns-in-Done c = stop-steps JudgeStage.ReadStation c.args.held c.args.event _ c.args.buf.now _ _ c.stopped-in-Done.ensures c.in-Done.is refl
-
-pub returns-in-Count : goal.returns-in-Count
-returns-in-Count c = stop-steps JudgeStage.ReadStation c.args.held c.args.event _ c.args.buf.now _ _ c.stopped-in-Count.ensures c.in-Count.is refl
+returns-in-Done c =
+    elim c.in-Done.is [
+      | inl is ↦ stop-steps JudgeStage.ReadStation c.args.held c.args.event _ c.args.buf.now _ _ c.stopped-in-Done.ensures is refl
+      | inr is ↦ stop-steps JudgeStage.ReadStation c.args.held c.args.event _ c.args.buf.now _ _ c.stopped-in-Done.ensures is.1 refl
+    ]
 
 pub returns-in-Failed : goal.returns-in-Failed
 returns-in-Failed c = stop-steps JudgeStage.ReadStation c.args.held c.args.event _ c.args.buf.now _ _ c.stopped-in-Failed.ensures c.in-Failed.is refl
+
+pub returns-in-Some : goal.returns-in-Some
+returns-in-Some c =
+    let chunk = first-bytes _ c.args.buf.now _ c.in-Some.ensures.lookup.0.2 in
+    at-event JudgeStage.ReadStation c.args.held c.args.event _ c.args.buf.now _ c.in-Read.is (station-read-steps c.args.held _ c.args.buf.now _ _ chunk c.station_chunk.ensures)
+
+pub returns-in-None : goal.returns-in-None
+returns-in-None c =
+    let short = c.in-None.ensures.lookup in
+    short-stop JudgeStage.ReadStation 1 c.args.held c.args.event _ c.args.buf.now _ _ refl c.stopped.ensures c.in-Read.is (search (rules, short))
