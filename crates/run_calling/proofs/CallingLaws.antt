@@ -14,7 +14,7 @@ use Rattle.exchange.specs.declared.event.Event.{Event}
 use Rattle.exchange.specs.Existing.{gives_up}
 use Rattle.exchange.specs.World.{after}
 use Rattle.judging.specs.declared.state.JudgeStage.{JudgeStage}
-use Rattle.judging.specs.declared.state.Judging.{Judging}
+use Rattle.judging.specs.Stages.{Judging}
 use Rattle.judging.specs.Stages.{judge_asks, is_stopped}
 use Rattle.judging.specs.Holds.{JudgeHoldsAt, JudgesFrom}
 use Rattle.judging.proofs.FrameLaws.{judging-writes-nothing, judging-keeps-arguments}
