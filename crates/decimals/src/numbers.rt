@@ -34,10 +34,8 @@ fn write_commaed(numbers: &[u64], at: usize, buffer: &mut [u8]) -> usize
     ensures { (result ≡ at + length (commaed numbers.now)) × (buffer.new ≡ placed buffer.old at (commaed numbers.now)) }
 {
     let mut end = at;
-    let mut i: usize = 0;
-    while i < numbers.len() {
-        end = put_number(numbers[i], end, buffer);
-        i += 1;
+    for number in numbers {
+        end = put_number(*number, end, buffer);
     }
     end
 }

@@ -13,6 +13,9 @@ const MOST_BYTES: usize = 273;
 // The columns up to the diesel power: most rows have others than the row before.
 const CHANGING: usize = 8;
 
+// The columns after them.
+const KEPT: usize = ROW_COLUMNS - CHANGING;
+
 // How many rows were put, and how many bytes they have.
 #[derive(Clone, Copy)]
 pub struct RowsPut {
@@ -36,15 +39,7 @@ fn ends_alike(numbers: &[u64], start: usize) -> bool
     if start < ROW_COLUMNS {
         return false;
     }
-    let mut i = start + CHANGING;
-    let end = start + ROW_COLUMNS;
-    while i < end {
-        if numbers[i] != numbers[i - ROW_COLUMNS] {
-            return false;
-        }
-        i += 1;
-    }
-    true
+    numbers[start + CHANGING..start + ROW_COLUMNS] == numbers[start - KEPT..start]
 }
 
 // Bytes that stand in the buffer before `at`, put again from there on: where they end.
@@ -52,11 +47,7 @@ fn put_again(from: usize, size: usize, at: usize, buffer: &mut [u8]) -> usize
     requires { (from + size ≤ at) × (at + size ≤ length buffer.old) }
     ensures { (result ≡ at + size) × (buffer.new ≡ placed buffer.old at (take size (drop from buffer.old))) }
 {
-    let mut i: usize = 0;
-    while i < size {
-        buffer[at + i] = buffer[from + i];
-        i += 1;
-    }
+    buffer.copy_within(from..from + size, at);
     at + size
 }
 
@@ -111,17 +102,15 @@ pub fn put_rows(numbers: &[u64], out: &mut [u8]) -> RowsPut
     ensures { LinesPut numbers.now out.old result out.new }
 {
     let rows = numbers.len() / ROW_COLUMNS;
-    let mut count: usize = 0;
     let mut bytes: usize = 0;
     let mut kept: usize = 0;
-    while count < rows {
+    for count in 0..rows {
         let put = put_next(numbers, ROW_COLUMNS * count, kept, bytes, out);
         if put.end == bytes {
             return RowsPut { count, bytes };
         }
         kept = put.kept;
         bytes = put.end;
-        count += 1;
     }
-    RowsPut { count, bytes }
+    RowsPut { count: rows, bytes }
 }

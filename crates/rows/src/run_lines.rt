@@ -1,5 +1,6 @@
 // The other lines that a program prints, each at the front of a lent buffer: the two headings, a set's line, a refusal, and that files
 // are accepted.
+ghost use Rattle.std.specs.Prelude.{◌≤◌, length};
 ghost use Rattle.rules.specs.Row.{row_heading, set_heading, refusal_line};
 ghost use Rattle.rows.specs.AnswerLine.{refused_line, accepted_line};
 ghost use Rattle.rows.specs.SetLine.{set_line};
@@ -12,28 +13,32 @@ use rules::run::SetState;
 use texts::put_text;
 use words::refusals::NumberAndPlace;
 
-// The heading of the rows.
-pub fn put_row_heading(buffer: &mut [u8]) -> Result<usize, Refusal>
-    ensures { TextPut row_heading buffer.old result buffer.new }
+// A line that any buffer of the least size has room for.
+fn put_line(line: &[u8], buffer: &mut [u8]) -> Result<usize, Refusal>
+    requires { length line.now ≤ 256 }
+    ensures { TextPut line.now buffer.old result buffer.new }
 {
     if buffer.len() < LEAST_ROW_BUFFER {
         return Err(Refusal::RowBuffer);
     }
-    Ok(put_text(
+    Ok(put_text(line, 0, buffer))
+}
+
+// The heading of the rows.
+pub fn put_row_heading(buffer: &mut [u8]) -> Result<usize, Refusal>
+    ensures { TextPut row_heading buffer.old result buffer.new }
+{
+    put_line(
         b"t,load,shed,solar,charge,spill,give,diesel,unserved,on,sets,call,store\n",
-        0,
         buffer,
-    ))
+    )
 }
 
 // The heading of the sets' lines.
 pub fn put_set_heading(buffer: &mut [u8]) -> Result<usize, Refusal>
     ensures { TextPut set_heading buffer.old result buffer.new }
 {
-    if buffer.len() < LEAST_ROW_BUFFER {
-        return Err(Refusal::RowBuffer);
-    }
-    Ok(put_text(b"set,run,starts,stops,energy,fuel\n", 0, buffer))
+    put_line(b"set,run,starts,stops,energy,fuel\n", buffer)
 }
 
 // The line of the set that has this number, counted from 1.
@@ -78,8 +83,5 @@ pub fn put_refused(refusal: Refusal, buffer: &mut [u8]) -> Result<usize, Refusal
 pub fn put_accepted(buffer: &mut [u8]) -> Result<usize, Refusal>
     ensures { TextPut accepted_line buffer.old result buffer.new }
 {
-    if buffer.len() < LEAST_ROW_BUFFER {
-        return Err(Refusal::RowBuffer);
-    }
-    Ok(put_text(b"accepted\n", 0, buffer))
+    put_line(b"accepted\n", buffer)
 }

@@ -4,8 +4,9 @@ use mathlib.Core.Path.{◌≡◌, refl, sym, ap, ◌∙◌}
 use mathlib.Core.List.{List, [], ◌∷◌, ◌++◌, append_assoc, append-nil}
 use native.Mathlib.Omega.{arith}
 use native.Mathlib.Numerals.{add-one}
-use lib.ListN.{length, take, drop, set, get_or, length-append, length-take, length-drop, drop_of_length-le, take-append-drop}
-use lib.Seq.{drop-drop, take_at, drop_at, take_all, take-suc, set_at, drop-cons}
+use lib.ListN.{length, take, drop, set, length-append, length-take, length-drop, drop_of_length-le, take-append-drop}
+use lib.Seq.{drop-drop, take_at, drop_at, take_all, set_at, drop-cons}
+use borrow.Rule.Slice.PartMut.{put_mid}
 use Rattle.texts.specs.Placed.{Front, placed}
 
 -- what stands after a text, once a byte more is stored
@@ -77,18 +78,11 @@ from-here l at h =
 pub stands : (l t b : List ℕ) (at end : ℕ) → at ≤ length l → Front l (take at l ++ t) end b → (end ≡ at + length t) × (b ≡ placed l at t)
 stands l t b at end h f = (f.0 ∙ length_front l at h t, f.1 ∙ sym (placed-front l at h t))
 
--- the first bytes of a text stand there, and one more of them
-pub text-more : (l t b : List ℕ) (at i : ℕ) → i < length t → at + length t ≤ length l → Front l (take at l ++ take i t) (at + i) b
-    → Front l (take at l ++ take (i + 1) t) (at + (i + 1)) (set b (at + i) (get_or t i 0))
-text-more l t b at i h k f =
-    let one : take (i + 1) t ≡ take i t ++ (get_or t i 0 ∷ []) = rw (add-one i) (take-suc t i 0 h) in
-    let more : (take at l ++ take i t) ++ (get_or t i 0 ∷ []) ≡ take at l ++ take (i + 1) t = append_assoc (take at l) (take i t) (get_or t i 0 ∷ []) ∙ ap (λ (s : List ℕ). take at l ++ s) (sym one) in
-    let g = rw more at (byte_more l (take at l ++ take i t) b (at + i) (get_or t i 0) (omega (arith, f.0)) f) in
-    (omega (arith, g.0), g.1)
-
--- and all of them
-pub text-all : (l t b : List ℕ) (at i : ℕ) → length t ≤ i → at ≤ length l → Front l (take at l ++ take i t) (at + i) b → (at + i ≡ at + length t) × (b ≡ placed l at t)
-text-all l t b at i h k f = stands l t b at (at + i) k (rw (take_all i t h) at f)
+-- a text that is copied over the bytes there
+pub copied : (l t new : List ℕ) (at : ℕ) → new ≡ t → put_mid at (at + length t - at) l new ≡ placed l at t
+copied l t new at same =
+    let k : at + length t - at ≡ length t = omega arith in
+    rw (k, same)
 
 -- one text after another
 pub placed_on : (l t u : List ℕ) (at k : ℕ) → at + length t ≤ length l → k ≡ at + length t → placed (placed l at t) k u ≡ placed l at (t ++ u)

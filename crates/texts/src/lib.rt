@@ -13,10 +13,7 @@ pub fn put_text(text: &[u8], at: usize, buffer: &mut [u8]) -> usize
     if buffer.len() - at < text.len() {
         return at;
     }
-    let mut i: usize = 0;
-    while i < text.len() {
-        buffer[at + i] = text[i];
-        i += 1;
-    }
-    at + i
+    let end = at + text.len();
+    buffer[at..end].copy_from_slice(text);
+    end
 }

@@ -1,7 +1,7 @@
 -- `put_rows` meets its contract. The invariant: the lines of the rows so far stand at the buffer's front, and where the text of the last
 -- row's last five numbers begins is known. Assumes nothing.
-use Prim.Native.Nat.{ℕ, ◌+◌, ◌*◌, ◌≤◌}
-use mathlib.Core.Path.{refl, ◌∙◌}
+use Prim.Native.Nat.{ℕ, ◌+◌, ◌*◌, ◌/◌, ◌≤◌}
+use mathlib.Core.Path.{◌≡◌, refl, ◌∙◌}
 use mathlib.Core.List.{List, ◌++◌}
 use native.Mathlib.Omega.{arith}
 use native.Mathlib.Numerals.{add-one}
@@ -61,12 +61,6 @@ returns-then-put-bytes c =
     let none = not-put (line (goal.at.returns-then-put-bytes c).In-loop-count) (bytes (goal.at.returns-then-put-bytes c).In-loop-count) (out (goal.at.returns-then-put-bytes c).In-loop-count) _ _ c.put_next-put.ensures.put (comma-line-least (row_at (count (goal.at.returns-then-put-bytes c).In-loop-count) (numbers (goal.at.returns-then-put-bytes c).In-loop-count))) c.if-put-bytes.true in
     record { front = (inv.3.0, none.0 ∙ inv.3.1); whole = inv.0; ends = λ more. omega (arith, none.1, inv.2) }
 
-pub overflow_add-count : goal.overflow_add-count
-overflow_add-count c = omega (arith, whole (goal.at.overflow_add-count c).In-loop-count)
-
-pub loop-count-smaller : goal.loop-count-smaller
-loop-count-smaller c = omega (arith, c.loop-count-test.true)
-
 pub loop-count-preserved : goal.loop-count-preserved
 loop-count-preserved c =
     let inv = c.loop-count.invariant in
@@ -83,4 +77,5 @@ loop-count-preserved c =
 pub returns : goal.returns
 returns c =
     let inv = c.loop-count.invariant in
-    record { front = inv.3; whole = inv.0; ends = λ more. absurd (omega (arith, more, c.loop-count-test.false)) }
+    let done : c.loop-count.count ≡ length c.args.numbers.now / 13 = omega arith in
+    record { front = rw done at inv.3; whole = rw done at inv.0; ends = λ more. absurd (omega (arith, more, done)) }
