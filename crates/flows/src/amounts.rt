@@ -6,37 +6,30 @@ ghost use Rattle.flows.specs.Amounts.{decided_in};
 use crate::arithmetic::{at_most, percent};
 use rules::station::Control;
 use station_fields::ranges;
-use words::arithmetic::{over, over_u32};
 
 // What solar and the shed % of the capacity leave of the load: of the whole of it, also while some is shed.
 pub(crate) fn shed_decided(control: Control, cap: u32, load: u32, solar: u32, sheddable: u32) -> u32
     ensures { result ≡ shed_decided control cap load solar sheddable }
 {
-    let left = over_u32(load, solar);
-    at_most(sheddable, over(left as u64, percent(cap, control.shed)))
+    let left = load.saturating_sub(solar);
+    at_most(
+        sheddable,
+        (left as u64).saturating_sub(percent(cap, control.shed)),
+    )
 }
 
 // The amount decided "delay" seconds ago: the oldest held, and 0 where none is.
 pub fn oldest(decided: &[u32]) -> u32
     ensures { result ≡ get_or decided.now 0 0 }
 {
-    if decided.len() == 0 {
-        return 0;
-    }
-    decided[0]
+    decided.first().copied().unwrap_or(0)
 }
 
 // How many amounts move: a delay of 0, which no file gives, counts as 1, and there are 60 amounts.
 fn moving(delay: u32) -> usize
     ensures { result ≡ min 60 (max 1 delay) }
 {
-    if delay < ranges::SHED_DELAY_LEAST {
-        return ranges::SHED_DELAY_LEAST as usize;
-    }
-    if ranges::SHED_DELAY_MOST < delay {
-        return ranges::SHED_DELAY_MOST as usize;
-    }
-    delay as usize
+    delay.clamp(ranges::SHED_DELAY_LEAST, ranges::SHED_DELAY_MOST) as usize
 }
 
 // The oldest goes, and the new one is the last of the first `count`.
@@ -44,11 +37,7 @@ fn move_amounts(count: usize, new: u32, after: &mut [u32])
     requires { (1 ≤ count) × (count ≤ length after.old) }
     ensures { after.new ≡ decided_after count after.old new }
 {
-    let mut i: usize = 1;
-    while i < count {
-        after[i - 1] = after[i];
-        i += 1;
-    }
+    after[..count].rotate_left(1);
     after[count - 1] = new;
 }
 

@@ -13,5 +13,5 @@ pub(crate) fn percent(x: u32, p: u32) -> u64
 pub(crate) fn at_most(a: u32, limit: u64) -> u32
     ensures { result ≡ min a limit }
 {
-    if (a as u64) < limit { a } else { limit as u32 }
+    (a as u64).min(limit) as u32
 }

@@ -4,14 +4,14 @@ ghost use Rattle.rules.specs.Flows.{battery_gives, battery_takes, store_after};
 
 use crate::arithmetic::at_most;
 use rules::station::Battery;
-use words::arithmetic::{over, over_u32, smaller};
 
 // What it gives of a rest above the capacity.
 pub(crate) fn battery_gives(battery: Battery, store: u64, cap: u32, rest: u32) -> u32
     ensures { result ≡ battery_gives battery store cap rest }
 {
-    let content = over(store, battery.least) / 100;
-    smaller(over_u32(rest, cap), at_most(battery.power, content))
+    let content = store.saturating_sub(battery.least) / 100;
+    rest.saturating_sub(cap)
+        .min(at_most(battery.power, content))
 }
 
 // What it takes of the surplus.
@@ -22,8 +22,8 @@ pub(crate) fn battery_takes(battery: Battery, store: u64, surplus: u32) -> u32
     if battery.efficiency == 0 {
         return 0;
     }
-    let room = over(battery.most, store) / (battery.efficiency as u64);
-    smaller(surplus, at_most(battery.power, room))
+    let room = battery.most.saturating_sub(store) / (battery.efficiency as u64);
+    surplus.min(at_most(battery.power, room))
 }
 
 // The store after a charge that its room allows: efficiency counts on the way in alone.
@@ -32,5 +32,5 @@ pub(crate) fn store_after(battery: Battery, store: u64, charge: u32, give: u32) 
     ensures { result ≡ store_after battery store charge give }
 {
     let efficiency = battery.efficiency as u64;
-    over(store + (charge as u64) * efficiency, 100 * (give as u64))
+    (store + (charge as u64) * efficiency).saturating_sub(100 * (give as u64))
 }

@@ -10,8 +10,7 @@ use rules::station::Station;
 pub fn floor_load(st: Station, mask: u32) -> u64
     ensures { result ≡ floor_load st mask }
 {
-    let sets = st.sets;
-    let cap = capacity(sets, mask);
+    let cap = capacity(st.sets, mask);
     let minload = st.control.minload as u64;
     cap / 100 * minload + cap % 100 * minload / 100
 }

@@ -6,7 +6,6 @@ use crate::arithmetic::at_most;
 use crate::battery::{battery_gives, battery_takes, store_after};
 use rules::run::{Inputs, Watts};
 use rules::station::Battery;
-use words::arithmetic::{over, over_u32, smaller};
 
 // A second's watts, and the store after it.
 #[derive(Clone, Copy)]
@@ -19,21 +18,21 @@ pub(crate) struct Flows {
 fn shed_now(sheddable: u32, decided: u32) -> u32
     ensures { result ≡ shed_now sheddable decided }
 {
-    smaller(sheddable, decided)
+    sheddable.min(decided)
 }
 
 // 4: the floor load stays with the sets On.
 fn solar_on_load(offered: u32, demand: u32, floor: u64) -> u32
     ensures { result ≡ solar_on_load offered demand floor }
 {
-    at_most(offered, over(demand as u64, floor))
+    at_most(offered, (demand as u64).saturating_sub(floor))
 }
 
 // 6, of the rest less what the battery gives.
 fn diesel_for(cap: u32, rest: u32) -> u32
     ensures { result ≡ diesel_for cap rest }
 {
-    smaller(rest, cap)
+    rest.min(cap)
 }
 
 // What a second's load is met from: solar has the load before the battery has solar.
@@ -48,17 +47,17 @@ pub(crate) fn flow(
     ensures { (result.watts ≡ watts_for battery store cap floor decided inputs) × (result.store ≡ store_after battery store result.watts.charge result.watts.give) }
 {
     let off = shed_now(inputs.sheddable, decided);
-    let demand = over_u32(inputs.load, off);
+    let demand = inputs.load.saturating_sub(off);
     let solar = solar_on_load(inputs.solar, demand, floor);
-    let rest = over_u32(demand, solar);
+    let rest = demand.saturating_sub(solar);
     let give = battery_gives(battery, store, cap, rest);
-    let surplus = over_u32(inputs.solar, solar);
+    let surplus = inputs.solar.saturating_sub(solar);
     let charge = battery_takes(battery, store, surplus);
-    let spill = over_u32(surplus, charge);
+    let spill = surplus.saturating_sub(charge);
     let after = store_after(battery, store, charge, give);
-    let left = over_u32(rest, give);
+    let left = rest.saturating_sub(give);
     let diesel = diesel_for(cap, left);
-    let unserved = over_u32(left, diesel);
+    let unserved = left.saturating_sub(diesel);
     let watts = Watts {
         offered: inputs.solar,
         load: inputs.load,

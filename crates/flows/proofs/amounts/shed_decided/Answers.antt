@@ -4,4 +4,4 @@ use Rattle.flows.proofs.amounts.shed_decided.Goals as goal
 
 pub returns : goal.returns
 unfolding shed_decided
-returns c = simp (c.at_most.ensures, c.over.ensures, c.percent.ensures, c.over_u32-left.ensures)
+returns c = simp (c.at_most.ensures, c.saturating_sub.ensures, c.percent.ensures, c.saturating_sub-left.ensures)

@@ -4,4 +4,4 @@ use Rattle.flows.proofs.battery.battery_gives.Goals as goal
 
 pub returns : goal.returns
 unfolding battery_gives
-returns c = simp (c.smaller.ensures, c.at_most.ensures, c.over-content.ensures, c.over_u32.ensures)
+returns c = simp (c.min.ensures, c.at_most.ensures, c.saturating_sub-content.ensures, c.saturating_sub.ensures)

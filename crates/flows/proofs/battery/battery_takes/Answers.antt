@@ -11,4 +11,4 @@ returns-then-battery-eq0 c =
 
 pub returns : goal.returns
 unfolding battery_takes
-returns c = simp (c.smaller.ensures, c.at_most.ensures, c.over.ensures)
+returns c = simp (c.min.ensures, c.at_most.ensures, c.saturating_sub.ensures)

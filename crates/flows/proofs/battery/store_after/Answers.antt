@@ -12,4 +12,4 @@ overflow_mul-give c = record { fits = product-fits 32 (search rules) (search rul
 
 pub returns : goal.returns
 unfolding store_after
-returns c = c.over.ensures
+returns c = c.saturating_sub.ensures

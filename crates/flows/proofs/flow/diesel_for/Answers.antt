@@ -4,4 +4,4 @@ use Rattle.flows.proofs.flow.diesel_for.Goals as goal
 
 pub returns : goal.returns
 unfolding diesel_for
-returns c = c.smaller.ensures
+returns c = c.min.ensures

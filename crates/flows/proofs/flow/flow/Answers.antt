@@ -16,16 +16,16 @@ returns c =
     let give = charge.before.before in
     let solar = give.before.before in (
       simp (
-        c.over_u32-unserved.ensures,
+        c.saturating_sub-unserved.ensures,
         c.diesel_for-diesel.ensures,
-        diesel.over_u32-left.ensures,
-        diesel.over_u32-spill.ensures,
+        diesel.saturating_sub-left.ensures,
+        diesel.saturating_sub-spill.ensures,
         charge.battery_takes-charge.ensures,
-        charge.over_u32-surplus.ensures,
+        charge.saturating_sub-surplus.ensures,
         give.battery_gives-give.ensures,
-        give.over_u32-rest.ensures,
+        give.saturating_sub-rest.ensures,
         solar.solar_on_load-solar.ensures,
-        solar.over_u32-demand.ensures,
+        solar.saturating_sub-demand.ensures,
         solar.shed_now-off.ensures,
       ),
       diesel.store_after-after.ensures,

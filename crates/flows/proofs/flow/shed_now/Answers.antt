@@ -4,4 +4,4 @@ use Rattle.flows.proofs.flow.shed_now.Goals as goal
 
 pub returns : goal.returns
 unfolding shed_now
-returns c = c.smaller.ensures
+returns c = c.min.ensures
