@@ -51,18 +51,13 @@ module _ (s : List ℕ) (i v : ℕ) where
   read-end h = rw (drop_of_length-le s h)
 
   module _ (h : i < length s) where
-    pub read_low : get_or s i 0 < 48 → to_read v (drop i s) ≡ None
+    pub read-other : is_digit (get_or s i 0) ≡ false → to_read v (drop i s) ≡ None
     unfolding all_digits value_from
-    read_low l = rw (drop-cons s i 0 h, lt-leb 48 (get_or s i 0) l)
+    read-other d = rw (drop-cons s i 0 h, d)
 
-    module _ (low : 48 ≤ get_or s i 0) where
-      pub read-high : 57 < get_or s i 0 → to_read v (drop i s) ≡ None
-      unfolding all_digits value_from
-      read-high k = rw (drop-cons s i 0 h, le-leb 48 (get_or s i 0) low, lt-leb (get_or s i 0) 57 k)
-
-      pub read-digit : get_or s i 0 ≤ 57 → to_read v (drop i s) ≡ to_read (v * 10 + (get_or s i 0 - 48)) (drop (i + 1) s)
-      unfolding all_digits value_from
-      read-digit k = rw (add-one i, drop-cons s i 0 h, le-leb 48 (get_or s i 0) low, le-leb (get_or s i 0) 57 k)
+    pub read-digit : is_digit (get_or s i 0) ≡ true → to_read v (drop i s) ≡ to_read (v * 10 + (get_or s i 0 - 48)) (drop (i + 1) s)
+    unfolding all_digits value_from
+    read-digit d = rw (add-one i, drop-cons s i 0 h, d)
 
 -- ---- how large a number of n digits is
 

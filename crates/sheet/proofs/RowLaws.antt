@@ -7,13 +7,12 @@ use native.Mathlib.Omega.{arith}
 use borrow.Author.Tests.{eq-eqb, ne_eqb, le-leb, lt-leb}
 use Rattle.rules.specs.declared.samples.Sample.{Sample}
 use Rattle.rules.specs.Numbers.{tab}
-use Rattle.rules.specs.Answers.{Answer, accepted, refused, refusal_of, ◌>>=◌}
+use Rattle.rules.specs.Answers.{Answer, accepted, refused, refusal_of, result_of, ◌>>=◌}
 use Rattle.rules.specs.SampleFile.{sample_sheet, cell, cell_values, value_under}
 use Rattle.sheet_headings.specs.declared.headings.Columns.{Columns}
 use Rattle.sheet_headings.specs.Headings.{columns_of}
-use Rattle.sheet.specs.Cells.{cell_of}
-use Rattle.sheet.specs.Rows.{cell_refusal, power_columns, sample_under, row_of_values, row_of_cells}
-use Rattle.sheet.specs.declared.numbers.CellFault.{CellFault}
+use Rattle.sheet.specs.Rows.{power_columns, sample_under, row_of_values, row_of_cells}
+use Rattle.rules.specs.declared.answers.Refusal.{Refusal}
 
 -- ---- the value of the first column after the time's that has a name
 
@@ -75,12 +74,6 @@ module _ (c : Columns) (line : ℕ) (vs : List ℕ) (r : Sample) (is : r ≡ sam
 
 -- ---- 18 and 19, of the cells
 
--- a cell that has no value refuses the row, whatever follows it
-pub no_value : (line : ℕ) (v : Result ℕ CellFault) {A : Type 0} (f : ℕ → Answer A) → ((x : ℕ) → v ≡ Ok x → ⊥) → refusal_of (cell_refusal line v) ≡ (cell_of line v >>= f)
-no_value line (Ok v) f k = absurd (k v refl)
-no_value line (Err CellFault.Malformed) f k = refl
-no_value line (Err CellFault.OverLimit) f k = refl
-
 -- values put in front of values, or the first refusal
 flat : (w x y z : Answer ℕ) (f : List ℕ → Answer Sample)
     → ((w >>= λ (a : ℕ). ((x >>= λ (b : ℕ). ((y >>= λ (c : ℕ). ((z >>= λ (d : ℕ). (accepted [] >>= λ (vs : List ℕ). accepted (d ∷ vs)))
@@ -104,26 +97,24 @@ module _ (c : Columns) (line : ℕ) (first second third fourth : List ℕ) where
   unfolding row_of_cells cell_values
   one_by_one = flat (cell line limits 0 first) (cell line limits c.second second) (cell line limits c.third third) (cell line limits c.fourth fourth) (row_of_values c line)
 
-  abbrev NoValue : Result ℕ CellFault → Type 0
-  NoValue v = (x : ℕ) → v ≡ Ok x → ⊥
+  -- what a cell comes to, as the rules have it
+  abbrev Read : Result ℕ Refusal → ℕ → List ℕ → Type 0
+  Read v name part = result_of v ≡ cell line limits name part
 
-  abbrev Read : Result ℕ CellFault → ℕ → List ℕ → Type 0
-  Read v name part = (line : ℕ) → cell_of line v ≡ cell line limits name part
+  pub wrong_first : (v : Result ℕ Refusal) (r : Refusal) → Read v 0 first → v ≡ Err r → refusal_of r ≡ whole
+  wrong_first v r is e = rw (one_by_one, ← is, e)
 
-  pub wrong_first : (v : Result ℕ CellFault) → Read v 0 first → NoValue v → refusal_of (cell_refusal line v) ≡ whole
-  wrong_first v r k = rw (one_by_one, ← r line) (no_value line v _ k)
+  module _ (u : Result ℕ Refusal) (a : ℕ) (first-is : Read u 0 first) (a-is : u ≡ Ok a) where
+    pub wrong_second : (v : Result ℕ Refusal) (r : Refusal) → Read v c.second second → v ≡ Err r → refusal_of r ≡ whole
+    wrong_second v r is e = rw (one_by_one, ← first-is, a-is, ← is, e)
 
-  module _ (u : Result ℕ CellFault) (a : ℕ) (first-is : Read u 0 first) (a-is : u ≡ Ok a) where
-    pub wrong_second : (v : Result ℕ CellFault) → Read v c.second second → NoValue v → refusal_of (cell_refusal line v) ≡ whole
-    wrong_second v r k = rw (one_by_one, ← first-is line, a-is, ← r line) (no_value line v _ k)
+    module _ (w : Result ℕ Refusal) (x : ℕ) (second_is : Read w c.second second) (x-is : w ≡ Ok x) where
+      pub wrong-third : (v : Result ℕ Refusal) (r : Refusal) → Read v c.third third → v ≡ Err r → refusal_of r ≡ whole
+      wrong-third v r is e = rw (one_by_one, ← first-is, a-is, ← second_is, x-is, ← is, e)
 
-    module _ (w : Result ℕ CellFault) (x : ℕ) (second_is : Read w c.second second) (x-is : w ≡ Ok x) where
-      pub wrong-third : (v : Result ℕ CellFault) → Read v c.third third → NoValue v → refusal_of (cell_refusal line v) ≡ whole
-      wrong-third v r k = rw (one_by_one, ← first-is line, a-is, ← second_is line, x-is, ← r line) (no_value line v _ k)
+      module _ (q : Result ℕ Refusal) (y : ℕ) (third-is : Read q c.third third) (y-is : q ≡ Ok y) where
+        pub wrong-fourth : (v : Result ℕ Refusal) (r : Refusal) → Read v c.fourth fourth → v ≡ Err r → refusal_of r ≡ whole
+        wrong-fourth v r is e = rw (one_by_one, ← first-is, a-is, ← second_is, x-is, ← third-is, y-is, ← is, e)
 
-      module _ (q : Result ℕ CellFault) (y : ℕ) (third-is : Read q c.third third) (y-is : q ≡ Ok y) where
-        pub wrong-fourth : (v : Result ℕ CellFault) → Read v c.fourth fourth → NoValue v → refusal_of (cell_refusal line v) ≡ whole
-        wrong-fourth v r k = rw (one_by_one, ← first-is line, a-is, ← second_is line, x-is, ← third-is line, y-is, ← r line) (no_value line v _ k)
-
-        pub all-four : (v : Result ℕ CellFault) (z : ℕ) → Read v c.fourth fourth → v ≡ Ok z → row_of_values c line (a ∷ x ∷ y ∷ z ∷ []) ≡ whole
-        all-four v z r z-is = rw (one_by_one, ← first-is line, a-is, ← second_is line, x-is, ← third-is line, y-is, ← r line, z-is)
+        pub all-four : (v : Result ℕ Refusal) (z : ℕ) → Read v c.fourth fourth → v ≡ Ok z → row_of_values c line (a ∷ x ∷ y ∷ z ∷ []) ≡ whole
+        all-four v z is z-is = rw (one_by_one, ← first-is, a-is, ← second_is, x-is, ← third-is, y-is, ← is, z-is)

@@ -1,20 +1,12 @@
 -- Document 01, "The sample file": what a row comes to in code.
-use Rattle.std.specs.Prelude.{ℕ, List, [], ◌∷◌, Ok, Err, Result}
+use Rattle.std.specs.Prelude.{ℕ, List, [], ◌∷◌}
 use Rattle.rules.specs.declared.samples.Sample.{Sample}
 use Rattle.rules.specs.Answers.{Answer, accepted, ◌>>=◌}
 use Rattle.rules.specs.Lines.{Line}
 use Rattle.rules.specs.Numbers.{tab}
-use Rattle.rules.specs.declared.answers.Refusal.{Refusal}
 use Rattle.rules.specs.SampleFile.{sample_sheet, cell_values, value_under, agreeing, row_values, sample_of}
 use Rattle.sheet_headings.specs.declared.headings.Columns.{Columns}
 use Rattle.sheet_headings.specs.Headings.{columns_of}
-use Rattle.sheet.specs.declared.numbers.CellFault.{CellFault}
-
--- the refusal of a cell that has no value; one that has a value is never asked for it
-abbrev pub cell_refusal : ℕ → Result ℕ CellFault → Refusal
-cell_refusal line (Ok v) = Refusal.Malformed line
-cell_refusal line (Err CellFault.Malformed) = Refusal.Malformed line
-cell_refusal line (Err CellFault.OverLimit) = Refusal.OverLimit line
 
 -- a row of the sample sheet, under these columns
 abbrev pub row_in : Columns → ℕ → Line → Answer Sample

@@ -6,7 +6,6 @@ ghost use Rattle.sheet.specs.Cells.{cell_of};
 ghost use Rattle.sheet.specs.Digits.{formed};
 
 use rules::limits::{MOST_DECIMALS, MOST_KW_DIGITS, MOST_POWER, MOST_TIME, MOST_TIME_DIGITS};
-use words::arithmetic::byte_u32;
 
 // Why a cell has no value. `specs/Cells.antt` gives document 01's number for each case.
 #[derive(Clone, Copy)]
@@ -20,24 +19,15 @@ fn digits_of(part: &[u8], most: usize) -> Option<u32>
     requires { most ≤ 9 }
     ensures { result ≡ formed (digits most part.now) (value part.now) }
 {
-    if part.len() < 1 {
-        return None;
-    }
-    if most < part.len() {
+    if part.is_empty() || most < part.len() {
         return None;
     }
     let mut number: u32 = 0;
-    let mut i = 0;
-    while i < part.len() {
-        let byte = part[i];
-        if byte < b'0' {
+    for &byte in part {
+        if !byte.is_ascii_digit() {
             return None;
         }
-        if b'9' < byte {
-            return None;
-        }
-        number = number * 10 + byte_u32(byte - b'0');
-        i += 1;
+        number = number * 10 + u32::from(byte - b'0');
     }
     Some(number)
 }
@@ -59,16 +49,12 @@ fn watts_of(cell: &[u8]) -> Option<u32>
     ensures { result ≡ formed (power_form (parts point cell.now)) (power_value (parts point cell.now)) }
 {
     let point = byte_search::find(cell, 0, cell.len(), b'.');
-    let Some(whole) = digits_of(&cell[..point], MOST_KW_DIGITS) else {
-        return None;
-    };
+    let whole = digits_of(&cell[..point], MOST_KW_DIGITS)?;
     if point == cell.len() {
         return Some(whole * 1000);
     }
     let decimals = &cell[point + 1..];
-    let Some(fraction) = digits_of(decimals, MOST_DECIMALS) else {
-        return None;
-    };
+    let fraction = digits_of(decimals, MOST_DECIMALS)?;
     Some(whole * 1000 + fraction * last_worth(decimals.len()))
 }
 
@@ -76,9 +62,7 @@ fn watts_of(cell: &[u8]) -> Option<u32>
 fn limited(limit: u32, number: Option<u32>) -> Result<u32, CellFault>
     ensures { (line : ℕ) (form : Bool) (v : ℕ) → number ≡ formed form v → cell_of line result ≡ limited line limit form v }
 {
-    let Some(value) = number else {
-        return Err(CellFault::Malformed);
-    };
+    let value = number.ok_or(CellFault::Malformed)?;
     if limit < value {
         return Err(CellFault::OverLimit);
     }

@@ -1,8 +1,8 @@
 // A row: "11, 17, cells left to right 18 before 19, then 20".
 ghost use Rattle.std.specs.Prelude.{◌≡◌, [], ◌∷◌};
 ghost use Rattle.rules.specs.Answers.{result_of};
-ghost use Rattle.rules.specs.SampleFile.{value_under};
-ghost use Rattle.sheet.specs.Rows.{row_in, row_of_cells, row_of_values, power_columns, cell_refusal};
+ghost use Rattle.rules.specs.SampleFile.{sample_sheet, cell, value_under};
+ghost use Rattle.sheet.specs.Rows.{row_in, row_of_cells, row_of_values, power_columns};
 
 use crate::numbers::{CellFault, cell_under};
 use rules::answers::Refusal;
@@ -19,14 +19,16 @@ pub struct Powers {
     pub fourth: u32,
 }
 
-// The refusal of a cell that has no value.
-fn refusal_of(line: u64, cell: Result<u32, CellFault>) -> Refusal
-    ensures { result ≡ cell_refusal line cell }
+// The value of a cell under the heading whose name has this place, or the refusal of its line.
+fn cell_value(line: u64, name: u8, part: &[u8]) -> Result<u32, Refusal>
+    ensures { result_of result ≡ cell line sample_sheet.limits name part.now }
 {
-    match cell {
-        Ok(_) => Refusal::Malformed(line),
-        Err(CellFault::Malformed) => Refusal::Malformed(line),
-        Err(CellFault::OverLimit) => Refusal::OverLimit(line),
+    match cell_under(name, part) {
+        Ok(value) => Ok(value),
+        Err(fault) => Err(match fault {
+            CellFault::Malformed => Refusal::Malformed(line),
+            CellFault::OverLimit => Refusal::OverLimit(line),
+        }),
     }
 }
 
@@ -73,26 +75,11 @@ fn read_cells(
 ) -> Result<Sample, Refusal>
     ensures { result_of result ≡ row_of_cells columns line (first.now ∷ second.now ∷ third.now ∷ fourth.now ∷ []) }
 {
-    let time = cell_under(0, first);
-    let Ok(at) = time else {
-        return Err(refusal_of(line, time));
-    };
-    let left = cell_under(columns.second, second);
-    let Ok(second_value) = left else {
-        return Err(refusal_of(line, left));
-    };
-    let middle = cell_under(columns.third, third);
-    let Ok(third_value) = middle else {
-        return Err(refusal_of(line, middle));
-    };
-    let right = cell_under(columns.fourth, fourth);
-    let Ok(fourth_value) = right else {
-        return Err(refusal_of(line, right));
-    };
+    let at = cell_value(line, 0, first)?;
     let powers = Powers {
-        second: second_value,
-        third: third_value,
-        fourth: fourth_value,
+        second: cell_value(line, columns.second, second)?,
+        third: cell_value(line, columns.third, third)?,
+        fourth: cell_value(line, columns.fourth, fourth)?,
     };
     agreeing(line, columns, at, powers)
 }

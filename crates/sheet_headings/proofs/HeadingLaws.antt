@@ -1,14 +1,14 @@
 -- Laws of the names of headings, and of one heading after the columns that were read. Assumes nothing.
-use Prim.Native.Nat.{ℕ, suc, ◌+◌, ◌≤◌, ◌<◌}
-use mathlib.Core.Path.{◌≡◌, refl, ap}
-use mathlib.Core.Bool.{Bool, true, false, not, ◌&&◌, ◌||◌, or_assoc, or-false}
+use Prim.Native.Nat.{ℕ, suc, ◌≤◌, ◌<◌}
+use mathlib.Core.Path.{◌≡◌, refl, ◌∙◌}
+use mathlib.Core.Bool.{Bool, true, false, not, ◌||◌, or_assoc, or-false}
 use mathlib.Core.List.{List, [], ◌∷◌, ◌++◌}
-use native.Mathlib.Numerals.{add-one}
 use native.Mathlib.Omega.{arith}
+use Rattle.std.proofs.lemmas.Bool.Decides.{nat_tests}
 use lib.Dec.{ltb, eqb}
-use lib.ListN.{length, drop, get_or, drop_of_length-le}
-use lib.Seq.{drop-cons}
-use borrow.Author.Tests.{lt-ltb, le-ltb, eq-eqb, ne_eqb, eqb-true, ltb-true, not-true}
+use lib.Pointwise.{pointwise}
+use lib.ListN.{length}
+use borrow.Author.Tests.{lt-ltb, le-ltb, eqb-true, ltb-true, not-true}
 use Rattle.rules.specs.Bytes.{same}
 use Rattle.rules.specs.Answers.{accepted, refused}
 use Rattle.rules.specs.SampleFile.{name_of, occurs, headings}
@@ -19,30 +19,16 @@ use Rattle.sheet_headings.specs.Headings.{columns_of}
 
 -- ---- the same bytes
 
-pub other_length : (a b : List ℕ) → (length a ≡ length b → ⊥) → false ≡ same a b
+eqb-turned : (x y : ℕ) → eqb x y ≡ eqb y x
+eqb-turned x y = grind (arith, nat_tests)
+
+-- `==` at slices says so, in either order
+pub equal-same : (a b : List ℕ) → pointwise eqb a b ≡ same b a
 unfolding same
-other_length [] [] h = absurd (h refl)
-other_length [] (y ∷ b) h = refl
-other_length (x ∷ a) [] h = refl
-other_length (x ∷ a) (y ∷ b) h = go (eqb x y) (other_length a b (λ e. h (ap suc e)))
-  where
-    go : (t : Bool) → false ≡ same a b → false ≡ t && same a b
-    go true rest = rest
-    go false rest = refl
-
-module _ (a b : List ℕ) (i : ℕ) where
-  pub same_end : length a ≤ i → length b ≤ i → true ≡ same (drop i a) (drop i b)
-  unfolding same
-  same_end h k = rw (drop_of_length-le a h, drop_of_length-le b k)
-
-  module _ (h : i < length a) (k : i < length b) where
-    pub same-on : get_or a i 0 ≡ get_or b i 0 → same (drop i a) (drop i b) ≡ same (drop (i + 1) a) (drop (i + 1) b)
-    unfolding same
-    same-on e = rw (drop-cons a i 0 h, drop-cons b i 0 k, eq-eqb (get_or a i 0) (get_or b i 0) e, add-one)
-
-    pub same-off : (get_or a i 0 ≡ get_or b i 0 → ⊥) → false ≡ same (drop i a) (drop i b)
-    unfolding same
-    same-off e = rw (drop-cons a i 0 h, drop-cons b i 0 k, ne_eqb (get_or a i 0) (get_or b i 0) e)
+equal-same [] [] = refl
+equal-same [] (y ∷ b) = refl
+equal-same (x ∷ a) [] = refl
+equal-same (x ∷ a) (y ∷ b) = rw (eqb-turned x y, equal-same a b)
 
 pub same_true : (a b : List ℕ) → same a b ≡ true → a ≡ b
 unfolding same
@@ -55,7 +41,10 @@ same_true (x ∷ a) (y ∷ b) h =
 
 -- ---- a heading's place among the names
 
-module _ (n : List ℕ) (ns : List (List ℕ)) (heading : List ℕ) (b : Bool) (e : b ≡ same n heading) where
+module _ (n : List ℕ) (ns : List (List ℕ)) (heading name : List ℕ) (b : Bool) (told : b ≡ pointwise eqb heading name) (is : name ≡ n) where
+  e : b ≡ same n heading
+  e = rw is at (told ∙ equal-same heading name)
+
   pub name-here : b ≡ true → 0 ≡ name_of (n ∷ ns) heading
   unfolding name_of
   name-here h = rw (← e, h)

@@ -11,7 +11,7 @@ use lib.ListN.{length, drop}
 use borrow.Author.Tests.{lt-ltb, le-ltb, le-leb, lt-leb, eq-eqb, ne_eqb}
 use Rattle.rules.specs.declared.answers.Refusal.{Refusal}
 use Rattle.rules.specs.Bytes.{bytes, comma, same, parts}
-use Rattle.rules.specs.Answers.{Answer, accepted, refused, ◌>>=◌}
+use Rattle.rules.specs.Answers.{refusal_of, Answer, accepted, refused, ◌>>=◌}
 use Rattle.rules.specs.Lines.{Line, cells_of}
 use Rattle.rules.specs.SampleFile.{sample_sheet, name_of, occurs, headings, heading_line}
 use Rattle.sheet_headings.specs.declared.headings.Columns.{Columns}
@@ -83,10 +83,10 @@ module _ (text : List ℕ) (read : Columns) (right : Right read) (end : ℕ) whe
     past_more = rw (lt-ltb end (length text) more, e) (parts_from text (end + 1))
 
     module _ (headed : Result Columns Refusal) (is : headed_of headed ≡ (headings names (columns_of read) (heading ∷ []) >>= along)) where
-      pub refused-there : (refusal : Refusal) → headed ≡ Err refusal → headed_of headed ≡ from_there read text end
+      pub refused-there : (refusal : Refusal) → headed ≡ Err refusal → refusal_of refusal ≡ from_there read text end
       refused-there refusal h =
           let t = turn-refused read right heading (past text (end + 1 + length heading)) _ _ (sym (ap headed_of h) ∙ is) in
-          rw h (sym (rw (past_more, t)))
+          sym (rw (past_more, t))
 
       pub found-there : (next : Columns) → headed ≡ Ok next → Right next × (from_there read text end ≡ from_there next text (end + 1 + length heading))
       found-there next h =

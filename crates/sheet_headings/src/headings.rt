@@ -1,7 +1,6 @@
 // The heading line: "`t` first, then LoadP, PvAvailP, ShedLoadP once each in any order".
 ghost use Rattle.std.specs.Prelude.{◌≡◌, [], ◌∷◌, drop};
 ghost use Rattle.rules.specs.Answers.{accepted, ◌>>=◌ as ◌then◌};
-ghost use Rattle.rules.specs.Bytes.{same};
 ghost use Rattle.rules.specs.SampleFile.{sample_sheet, name_of, headings, heading_line};
 ghost use Rattle.sheet_headings.specs.Headings.{headed_of, columns_of};
 
@@ -17,37 +16,20 @@ pub struct Columns {
     pub fourth: u8,
 }
 
-// The same bytes.
-fn same(a: &[u8], b: &[u8]) -> bool
-    ensures { result ≡ same a.now b.now }
-{
-    if a.len() != b.len() {
-        return false;
-    }
-    let mut i = 0;
-    while i < a.len() {
-        if a[i] != b[i] {
-            return false;
-        }
-        i += 1;
-    }
-    true
-}
-
 // A heading's place among the names, and 4 where it is none of them.
 pub fn name_of(heading: &[u8]) -> u8
     ensures { result ≡ name_of sample_sheet.names heading.now }
 {
-    if same(b"t", heading) {
+    if heading == b"t".as_slice() {
         return 0;
     }
-    if same(b"LoadP", heading) {
+    if heading == b"LoadP".as_slice() {
         return 1;
     }
-    if same(b"PvAvailP", heading) {
+    if heading == b"PvAvailP".as_slice() {
         return 2;
     }
-    if same(b"ShedLoadP", heading) {
+    if heading == b"ShedLoadP".as_slice() {
         return 3;
     }
     4
@@ -58,7 +40,7 @@ pub fn name_of(heading: &[u8]) -> u8
 fn with_heading(read: Columns, heading: &[u8]) -> Result<Columns, Refusal>
     ensures { headed_of result ≡ (headings sample_sheet.names (columns_of read) (heading.now ∷ []) then λ columns. accepted (0 ∷ drop 2 columns)) }
 {
-    if heading.len() == 0 {
+    if heading.is_empty() {
         return Err(Refusal::HeadingBlank(1));
     }
     let name = name_of(heading);
@@ -94,11 +76,7 @@ pub fn heading_line(size: usize, text: &[u8]) -> Result<Columns, Refusal>
     let mut end = first.len();
     while end < text.len() {
         let heading = cell_at(text, end + 1);
-        let headed = with_heading(read, heading);
-        let Ok(next) = headed else {
-            return headed;
-        };
-        read = next;
+        read = with_heading(read, heading)?;
         end = end + 1 + heading.len();
     }
     if read.second == 0 {

@@ -2,40 +2,44 @@
 use mathlib.Core.Path.{sym, ◌∙◌}
 use native.Mathlib.Numerals.{add-one}
 use native.Mathlib.Omega.{arith}
-use borrow.Author.Rules.{rules}
-use Rattle.sheet.proofs.DigitLaws.{read_short, read-long, read_first, read_low, read-high, read-digit, read-end, below_more, below-most}
+use lib.ListN.{get_or}
+use borrow.Author.Tests.{eqb-true, eqb-false}
+use Rattle.rules.proofs.Tests.{within-fact}
+use Rattle.sheet.proofs.DigitLaws.{read_short, read-long, read_first, read-other, read-digit, read-end, below_more, below-most}
 use Rattle.sheet.proofs.numbers.digits_of.Goals as goal
+use Rattle.sheet.proofs.numbers.digits_of.Goals.{then-is_empty-via-then-is_empty, then-is_empty-via-else-is_empty+then-most-part}
 
-pub returns-then-part-lt1 : goal.returns-then-part-lt1
-returns-then-part-lt1 c = read_short _ _ c.if-part-lt1.true
+pub returns-then-is_empty : goal.returns-then-is_empty
+returns-then-is_empty c =
+    elim c.then-is_empty.branch [
+      | then-is_empty-via-then-is_empty w ↦ let e = eqb-true _ 0 (sym c.is_empty.ensures ∙ w.if-is_empty.true) in read_short _ _ (omega (arith, e))
+      | then-is_empty-via-else-is_empty+then-most-part w ↦ let e = eqb-false _ 0 (sym c.is_empty.ensures ∙ w.if-is_empty.false) in read-long _ _ (omega (arith, e)) w.if-most-part.true
+    ]
 
-pub returns-then-most-part : goal.returns-then-most-part
-returns-then-most-part c = read-long _ _ c.if-part-lt1.false c.if-most-part.true
+pub loop-byte-init : goal.loop-byte-init
+loop-byte-init c =
+    let e = eqb-false _ 0 (sym c.is_empty.ensures ∙ c.if-is_empty.false) in
+    (omega arith, omega arith, read_first _ _ (omega (arith, e)) c.if-most-part.false)
 
-pub loop-i-init : goal.loop-i-init
-loop-i-init c = (search rules, omega arith, omega arith, read_first _ _ c.if-part-lt1.false c.if-most-part.false)
-
-pub returns-then-byte-lt48 : goal.returns-then-byte-lt48
-returns-then-byte-lt48 c = sym (c.loop-i.invariant.3 ∙ read_low _ _ _ c.loop-i-test.true c.if-byte-lt48.true)
-
-pub returns-then-byte-gt57 : goal.returns-then-byte-gt57
-returns-then-byte-gt57 c = sym (c.loop-i.invariant.3 ∙ read-high _ _ _ c.loop-i-test.true c.if-byte-lt48.false c.if-byte-gt57.true)
+pub returns-then-not-is_ascii_digit : goal.returns-then-not-is_ascii_digit
+returns-then-not-is_ascii_digit c = sym (c.loop-byte.invariant.2 ∙ read-other _ _ _ c.loop-byte-test.true (sym c.is_ascii_digit.ensures.value ∙ c.if-not-is_ascii_digit.true))
 
 pub overflow_mul-number : goal.overflow_mul-number
-overflow_mul-number c = omega (arith, below-most c.loop-i.i 8 c.loop-i.number (omega arith) c.loop-i.invariant.2)
+overflow_mul-number c = omega (arith, below-most c.loop-byte.byte-index 8 c.loop-byte.number (omega arith) c.loop-byte.invariant.1)
 
 pub overflow_add-number : goal.overflow_add-number
-overflow_add-number c = omega (arith, below-most c.loop-i.i 8 c.loop-i.number (omega arith) c.loop-i.invariant.2)
+overflow_add-number c = omega (arith, below-most c.loop-byte.byte-index 8 c.loop-byte.number (omega arith) c.loop-byte.invariant.1)
 
-pub loop-i-preserved : goal.loop-i-preserved
-loop-i-preserved c =
-    let at = c.loop-i in
-    let e = c.byte_u32.ensures.value in (
-      omega arith,
-      at.invariant.1,
-      rw (add-one, e) (below_more at.i at.number _ at.invariant.2 (omega arith)),
-      rw e (at.invariant.3 ∙ read-digit _ _ _ c.loop-i-test.true c.if-byte-lt48.false c.if-byte-gt57.false),
+pub loop-byte-preserved : goal.loop-byte-preserved
+loop-byte-preserved c =
+    let at = c.loop-byte in
+    let digit = sym c.is_ascii_digit.ensures.value ∙ c.if-not-is_ascii_digit.false in
+    let w = within-fact 48 57 (get_or c.args.part.now at.byte-index 0) digit in
+    let e = c.from.ensures in (
+      at.invariant.0,
+      rw (add-one, e) (below_more at.byte-index at.number _ at.invariant.1 (omega (arith, w.1))),
+      rw e (at.invariant.2 ∙ read-digit _ _ _ c.loop-byte-test.true digit),
     )
 
 pub returns : goal.returns
-returns c = sym (c.loop-i.invariant.3 ∙ read-end _ _ _ c.loop-i-test.false)
+returns c = sym (c.loop-byte.invariant.2 ∙ read-end _ _ _ c.loop-byte-test.false)

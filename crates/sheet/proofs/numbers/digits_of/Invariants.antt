@@ -1,5 +1,5 @@
 -- `sheet::numbers::digits_of` meets its contract. What is left of the text decides, with the value of its digits so far. Assumes nothing.
-use Prim.Native.Nat.{◌-◌, ◌^◌, ◌≤◌, ◌<◌}
+use Prim.Native.Nat.{◌^◌, ◌≤◌, ◌<◌}
 use mathlib.Core.Path.{◌≡◌}
 use lib.ListN.{length, drop}
 use Rattle.rules.specs.Bytes.{digits, value}
@@ -7,9 +7,6 @@ use Rattle.sheet.specs.Digits.{formed}
 use Rattle.sheet.proofs.DigitLaws.{to_read}
 use Rattle.sheet.proofs.numbers.digits_of.Given as goal
 
-abbrev pub invariant-loop-i : goal.invariant-loop-i
-invariant-loop-i l =
-    (l.i ≤ length l.part) × (length l.part ≤ 9) × (l.number < 10 ^ l.i) × (formed (digits l.most l.part) (value l.part) ≡ to_read l.number (drop l.i l.part))
-
-abbrev pub decreases-loop-i : goal.decreases-loop-i
-decreases-loop-i l = length l.part - l.i
+abbrev pub invariant-loop-byte : goal.invariant-loop-byte
+invariant-loop-byte l =
+    (length l.part ≤ 9) × (l.number < 10 ^ l.byte-index) × (formed (digits l.most l.part) (value l.part) ≡ to_read l.number (drop l.byte-index l.part))

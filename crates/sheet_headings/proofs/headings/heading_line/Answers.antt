@@ -1,4 +1,5 @@
 -- `sheet_headings::headings::heading_line` meets its contract: what the headings past each one come to decides. Assumes nothing.
+use Rattle.std.proofs.lemmas.Result.{err_from_is_err_and}
 use mathlib.Core.Path.{sym, ◌∙◌}
 use native.Mathlib.Omega.{arith}
 use native.Mathlib.Nat.{zero-add}
@@ -17,11 +18,11 @@ loop-end-init c =
     let first = c.cell_at-first.ensures.result_value in
     (simp zero-add at (heading-within _ 0 _ first (omega arith)), none_right, after-time _ _ c.if-size-gt-MOST_LINE.false _ first _ c.name_of.ensures c.if-name_of-gt0.false)
 
-pub returns-in_default : goal.returns-in_default
-returns-in_default c =
-    let heading = c.before.before in
-    let turn = heading.loop-end in
-    refused-there _ _ turn.invariant.1 _ heading.loop-end-test.true _ heading.cell_at-heading.ensures.result_value _ c.with_heading-headed.ensures _ c.in_default.is ∙ sym turn.invariant.2
+pub returns-in_err-read : goal.returns-in_err-read
+returns-in_err-read c =
+    let turn = c.loop-end in
+    let p = err_from_is_err_and c.from_residual.result c.from_residual.ensures.1 in
+    rw (p.1, p.2) (refused-there _ _ turn.invariant.1 _ c.loop-end-test.true _ c.cell_at-heading.ensures.result_value _ c.with_heading.ensures _ c.in_err-read.was ∙ sym turn.invariant.2)
 
 pub overflow_add-end-in-loop-end-2 : goal.overflow_add-end-in-loop-end-2
 overflow_add-end-in-loop-end-2 c = omega (arith, heading-within _ _ _ c.cell_at-heading.ensures.result_value (omega arith))
@@ -31,7 +32,7 @@ loop-end-preserved c =
     let heading = c.before.before in
     let turn = heading.loop-end in
     let starts = heading.cell_at-heading.ensures.result_value in
-    let found = found-there _ _ turn.invariant.1 _ heading.loop-end-test.true _ starts _ c.with_heading-headed.ensures _ c.in-Ok.is in
+    let found = found-there _ _ turn.invariant.1 _ heading.loop-end-test.true _ starts _ c.with_heading.ensures _ c.in_ok-read.was in
     (heading-within _ _ _ starts (omega arith), found.0, turn.invariant.2 ∙ found.1)
 
 pub returns-then-read-eq0 : goal.returns-then-read-eq0

@@ -1,12 +1,13 @@
 -- `sheet_headings::headings::with_heading` meets its contract. Assumes nothing.
 use mathlib.Core.Path.{sym, ◌∙◌}
+use borrow.Author.Tests.{eqb-true}
 use borrow.Author.Rules.{rules}
 use Rattle.rules.specs.SampleFile.{sample_sheet}
 use Rattle.sheet_headings.proofs.HeadingLaws.{heading-blank, heading-unknown, heading-twice, heading-new, headings-end, occurs-in}
 use Rattle.sheet_headings.proofs.headings.with_heading.Goals as goal
 
-pub returns-then-heading-eq0 : goal.returns-then-heading-eq0
-returns-then-heading-eq0 c = rw (heading-blank _ _ _ _ c.if-heading-eq0.true)
+pub returns-then-is_empty : goal.returns-then-is_empty
+returns-then-is_empty c = rw (heading-blank _ _ _ _ (eqb-true _ 0 (sym c.is_empty.ensures ∙ c.if-is_empty.true)))
 
 pub returns-then-name-gt3 : goal.returns-then-name-gt3
 unfolding sample_sheet
