@@ -1,5 +1,5 @@
 -- Seconds that are admitted one after the other, as a loop counts them. Assumes nothing.
-use Rattle.std.specs.Prelude.{Ok, Err, Result}
+use Rattle.std.specs.Prelude.{Ok, Err, Result, is_err}
 use Prim.Native.Nat.{ℕ, suc, ◌+◌, ◌-◌, ◌*◌, ◌≤◌, ◌<◌}
 use mathlib.Core.Path.{◌≡◌, refl, sym, ap, ◌∙◌}
 use mathlib.Core.Bool.{true, false}
@@ -16,6 +16,7 @@ use Rattle.rules.specs.RunRecord.{most_seconds}
 use Rattle.rules.specs.Second.{admitted}
 use Rattle.rules.specs.Seconds.{inputs_each}
 use Rattle.rules.proofs.Checks.{passed}
+use Rattle.rules.proofs.Tests.{never}
 use Rattle.admission.specs.Admission.{first_inputs, admitted_to}
 use Rattle.admission.proofs.Each.{each_at}
 
@@ -82,11 +83,13 @@ all-admitted {done} {inputs} {most} {second} {count} h l =
     sym (h.left ∙ rw (none, no_room (done + count) (drop count (inputs_each inputs)), z))
 
 -- by the verdict on it
-pub told-refused : (v : Result (Unit {0}) Refusal) (why : Refusal) (second : ℕ) (x : Inputs) (room : ℕ) → result_of v ≡ admitted second x room → v ≡ Err why → is_accepted (admitted second x room) ≡ false
-told-refused v why second x room e is = ap is_accepted (sym e) ∙ ap (λ (k : Result (Unit {0}) Refusal). is_accepted (result_of k)) is
+pub told-refused : (v : Result (Unit {0}) Refusal) (second : ℕ) (x : Inputs) (room : ℕ) → result_of v ≡ admitted second x room → is_err v ≡ true → is_accepted (admitted second x room) ≡ false
+told-refused (Ok u) second x room e is = never is
+told-refused (Err why) second x room e is = ap is_accepted (sym e)
 
-pub told-accepted : (v : Result (Unit {0}) Refusal) (second : ℕ) (x : Inputs) (room : ℕ) → result_of v ≡ admitted second x room → v ≡ Ok tt → admitted second x room ≡ accepted tt
-told-accepted v second x room e is = sym e ∙ ap result_of is
+pub told-accepted : (v : Result (Unit {0}) Refusal) (second : ℕ) (x : Inputs) (room : ℕ) → result_of v ≡ admitted second x room → is_err v ≡ false → admitted second x room ≡ accepted tt
+told-accepted (Ok u) second x room e is = sym e
+told-accepted (Err why) second x room e is = never (sym is)
 
 -- a slice from a place on
 pub rest_of : {A : Type 0} (l : List A) (n : ℕ) → take (length l - n) (drop n l) ≡ drop n l

@@ -12,7 +12,6 @@ use rules::limits::{LEAST_ROW_BUFFER, MOST_POWER, MOST_SECONDS, SECOND_INPUTS};
 use rules::run::{Inputs, Run};
 use rules::station::Station;
 use station_record::record::some_file_gives;
-use words::arithmetic::lesser;
 
 // No power over its limit.
 fn inputs_right(inputs: Inputs) -> bool
@@ -25,15 +24,13 @@ fn inputs_right(inputs: Inputs) -> bool
 pub fn admit(done: u32, inputs: Inputs, room: usize) -> Result<(), Refusal>
     ensures { result_of result ≡ admitted done inputs room }
 {
-    let load = inputs.load;
-    let sheddable = inputs.sheddable;
     if MOST_SECONDS <= done {
         return Err(Refusal::RunEnded);
     }
     if !inputs_right(inputs) {
         return Err(Refusal::OverLimit(0));
     }
-    if load < sheddable {
+    if inputs.load < inputs.sheddable {
         return Err(Refusal::SheddableAboveLoad(0));
     }
     if room < LEAST_ROW_BUFFER {
@@ -48,17 +45,14 @@ fn admitted_to(done: u32, inputs: &[u32], most: usize) -> usize
     ensures { result ≡ admitted_to done (inputs_each inputs.now) most }
 {
     let mut second = done;
-    let mut count: usize = 0;
-    while count < most {
+    for count in 0..most {
         let x = first_inputs(&inputs[SECOND_INPUTS * count..]);
-        let verdict = admit(second, x, LEAST_ROW_BUFFER);
-        if let Err(_) = verdict {
+        if admit(second, x, LEAST_ROW_BUFFER).is_err() {
             return count;
         }
         second += 1;
-        count += 1;
     }
-    count
+    most
 }
 
 // Why so many seconds were worked and no more, where so many were asked and so many have room.
@@ -100,7 +94,7 @@ pub fn judge_seconds(st: Station, run: Run, inputs: &[u32], room: usize) -> Judg
     ensures { JudgedBy (came_to st run (inputs_each inputs.now) room) result }
 {
     let asked = inputs.len() / SECOND_INPUTS;
-    let count = admitted_of(st, run, inputs, lesser(asked, room));
+    let count = admitted_of(st, run, inputs, asked.min(room));
     Judged {
         seconds: count,
         ended: ended_at(count, asked, room),

@@ -11,9 +11,9 @@ pub returns-then-not-inputs_right : goal.returns-then-not-inputs_right
 returns-then-not-inputs_right c =
     inputs-over c.args.done c.args.inputs c.args.room (omega arith) (sym c.inputs_right.ensures ∙ c.if-not-inputs_right.true)
 
-pub returns-then-load-sheddable : goal.returns-then-load-sheddable
-returns-then-load-sheddable c =
-    sheddable-above c.args.done c.args.inputs c.args.room (omega arith) (sym c.inputs_right.ensures ∙ c.if-not-inputs_right.false) c.if-load-sheddable.true
+pub returns-then-inputs : goal.returns-then-inputs
+returns-then-inputs c =
+    sheddable-above c.args.done c.args.inputs c.args.room (omega arith) (sym c.inputs_right.ensures ∙ c.if-not-inputs_right.false) c.if-inputs.true
 
 pub returns-then-room-lt-LEAST_ROW_BUFFER : goal.returns-then-room-lt-LEAST_ROW_BUFFER
 returns-then-room-lt-LEAST_ROW_BUFFER c =

@@ -1,6 +1,6 @@
 -- `admission::admit::admitted_to` meets its contract. Assumes nothing.
 use Prim.Native.Nat.{◌*◌}
-use mathlib.Core.Path.{◌≡◌, ap, ◌∙◌}
+use mathlib.Core.Path.{◌≡◌, ap, sym, ◌∙◌}
 use native.Mathlib.Omega.{arith}
 use lib.ListN.{drop}
 use Rattle.admission.specs.Admission.{first_inputs}
@@ -30,19 +30,19 @@ slice_bounds-first_inputs-start c = omega (arith, c.loop-count.invariant.range)
 pub slice_bounds-first_inputs-end : goal.slice_bounds-first_inputs-end
 slice_bounds-first_inputs-end c = omega (arith, c.loop-count.invariant.range)
 
-pub returns-in-Err : goal.returns-in-Err
-returns-in-Err c =
+pub returns-then-is_err : goal.returns-then-is_err
+returns-then-is_err c =
     admitting-none c.loop-count.invariant c.loop-count-test.true
-    (rw (← asked (goal.at.returns-in-Err c).After-first_inputs-x) (told-refused _ _ _ _ _ c.admit-verdict.ensures c.in-Err.is))
+    (rw (← asked (goal.at.returns-then-is_err c).After-first_inputs-x) (told-refused _ _ _ _ c.admit.ensures (sym c.is_err.ensures.value ∙ c.if-is_err.true)))
 
 pub overflow_add-second : goal.overflow_add-second
 overflow_add-second c =
-    record { fits = omega (arith, going _ _ _ (told-accepted _ _ _ _ c.admit-verdict.ensures c.in_default.is)) }
+    record { fits = omega (arith, going _ _ _ (told-accepted _ _ _ _ c.admit.ensures (sym c.is_err.ensures.value ∙ c.if-is_err.false))) }
 
 pub loop-count-preserved : goal.loop-count-preserved
 loop-count-preserved c =
     admitting-more c.loop-count.invariant c.loop-count-test.true
-    (rw (← asked (goal.at.loop-count-preserved c).After-first_inputs-x) (told-accepted _ _ _ _ c.admit-verdict.ensures c.in_default.is))
+    (rw (← asked (goal.at.loop-count-preserved c).After-first_inputs-x) (told-accepted _ _ _ _ c.admit.ensures (sym c.is_err.ensures.value ∙ c.if-is_err.false)))
 
 pub returns : goal.returns
-returns c = all-admitted c.loop-count.invariant c.loop-count-test.false
+returns c = let e : c.args.most ≡ c.loop-count.count = omega (arith, c.loop-count.invariant.up_to) in e ∙ all-admitted c.loop-count.invariant c.loop-count-test.false

@@ -31,4 +31,4 @@ judged st tables r inputs room j e k =
 
 pub returns : goal.returns
 returns c =
-    judged c.args.st (tables (goal.at.returns c).Start) c.args.run c.args.inputs.now c.args.room _ (c.admitted_of-count.ensures ∙ rw c.lesser.ensures) c.ended_at.ensures
+    judged c.args.st (tables (goal.at.returns c).Start) c.args.run c.args.inputs.now c.args.room _ (c.admitted_of-count.ensures ∙ rw c.min.ensures) c.ended_at.ensures

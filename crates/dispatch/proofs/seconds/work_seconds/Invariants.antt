@@ -1,6 +1,6 @@
 -- `dispatch::seconds::work_seconds` meets its contract. Assumes nothing.
 -- ---- a second, and its row
-use Prim.Native.Nat.{◌-◌, ◌≤◌}
+use Prim.Native.Nat.{◌≤◌}
 use mathlib.Core.Path.{◌≡◌}
 use lib.ListN.{length}
 use Rattle.rules.specs.Seconds.{inputs_each}
@@ -15,5 +15,3 @@ invariant-loop-i l =
     × (length l.decided ≡ 60)
     × (length l.rows ≡ length l.initial.rows)
 
-abbrev pub decreases-loop-i : goal.decreases-loop-i
-decreases-loop-i l = l.count - l.i
