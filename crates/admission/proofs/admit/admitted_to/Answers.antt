@@ -15,21 +15,6 @@ asked c = c.first_inputs-x.ensures ∙ ap first_inputs (rest_of c.args.inputs.no
 pub loop-count-init : goal.loop-count-init
 loop-count-init c = admitting-start c.args.done c.args.inputs.now c.args.most c.requires
 
-pub overflow_mul-count : goal.overflow_mul-count
-overflow_mul-count c = record { fits = omega (arith, c.loop-count.invariant.range, c.well_formed.1.0) }
-
-pub offset_bounds-inputs-count : goal.offset_bounds-inputs-count
-offset_bounds-inputs-count c = record { fits = omega (arith, c.loop-count.invariant.range, c.well_formed.1.0) }
-
-pub slice_bounds-first_inputs-count : goal.slice_bounds-first_inputs-count
-slice_bounds-first_inputs-count c = omega (arith, c.loop-count.invariant.range)
-
-pub slice_bounds-first_inputs-start : goal.slice_bounds-first_inputs-start
-slice_bounds-first_inputs-start c = omega (arith, c.loop-count.invariant.range)
-
-pub slice_bounds-first_inputs-end : goal.slice_bounds-first_inputs-end
-slice_bounds-first_inputs-end c = omega (arith, c.loop-count.invariant.range)
-
 pub returns-then-is_err : goal.returns-then-is_err
 returns-then-is_err c =
     admitting-none c.loop-count.invariant c.loop-count-test.true

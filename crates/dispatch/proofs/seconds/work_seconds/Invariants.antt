@@ -14,4 +14,3 @@ invariant-loop-i l =
     × (l.i ≤ l.count)
     × (length l.decided ≡ 60)
     × (length l.rows ≡ length l.initial.rows)
-
