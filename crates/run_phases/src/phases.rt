@@ -1,5 +1,5 @@
 // The phase that a run comes to, what it wants then, and the room that it asks for.
-ghost use Rattle.std.specs.Prelude.{◌≡◌, suc, min};
+ghost use Rattle.std.specs.Prelude.{◌≡◌};
 ghost use Rattle.run_phases.specs.Phases.{phase_after, phase_for, wants_for, least_room};
 
 use crate::state::{Phase, Wants};
@@ -13,16 +13,10 @@ const FAIR_ROOM: usize = 8192;
 pub fn least_room(written: usize) -> usize
     ensures { result ≡ least_room written }
 {
-    if written == 0 {
-        return LEAST_ROW_BUFFER;
+    match written {
+        0 => LEAST_ROW_BUFFER,
+        _ => FAIR_ROOM,
     }
-    FAIR_ROOM
-}
-
-fn next_place(place: usize) -> usize
-    ensures { result ≡ min (suc place) 8 }
-{
-    if place < 8 { place + 1 } else { 8 }
 }
 
 // The phase after its line.
@@ -30,38 +24,36 @@ pub fn phase_after(phase: Phase) -> Phase
     ensures { result ≡ phase_after phase }
 {
     match phase {
-        Phase::Refusal(_) => Phase::Over,
-        Phase::Heading => Phase::Seconds,
-        Phase::Seconds => Phase::Seconds,
+        Phase::Refusal(_) | Phase::Over => Phase::Over,
+        Phase::Heading | Phase::Seconds => Phase::Seconds,
         Phase::SetHeading => Phase::SetLine(0),
-        Phase::SetLine(place) => Phase::SetLine(next_place(place)),
-        Phase::Over => Phase::Over,
+        Phase::SetLine(place) => Phase::SetLine(place.min(7) + 1),
         Phase::Broken => Phase::Broken,
     }
 }
 
 // The phase after some seconds, by what their call ended for.
-pub fn phase_for(halt: Halt) -> Phase
-    ensures { result ≡ phase_for halt }
-{
-    match halt {
-        Halt::Further => Phase::Seconds,
-        Halt::Input => Phase::Seconds,
-        Halt::Room => Phase::Seconds,
-        Halt::AllWorked => Phase::SetHeading,
-        Halt::Broken => Phase::Broken,
+impl From<Halt> for Phase {
+    ghost from_gives = { λ halt phase. phase ≡ phase_for halt };
+
+    fn from(halt: Halt) -> Phase {
+        match halt {
+            Halt::Further | Halt::Input | Halt::Room => Phase::Seconds,
+            Halt::AllWorked => Phase::SetHeading,
+            Halt::Broken => Phase::Broken,
+        }
     }
 }
 
 // What a turn of some seconds ended for, by what their call did.
-pub fn wants_for(halt: Halt) -> Wants
-    ensures { result ≡ wants_for halt }
-{
-    match halt {
-        Halt::Further => Wants::Further,
-        Halt::Input => Wants::Input,
-        Halt::Room => Wants::Room,
-        Halt::AllWorked => Wants::Further,
-        Halt::Broken => Wants::Further,
+impl From<Halt> for Wants {
+    ghost from_gives = { λ halt wants. wants ≡ wants_for halt };
+
+    fn from(halt: Halt) -> Wants {
+        match halt {
+            Halt::Input => Wants::Input,
+            Halt::Room => Wants::Room,
+            Halt::Further | Halt::AllWorked | Halt::Broken => Wants::Further,
+        }
     }
 }

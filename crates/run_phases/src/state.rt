@@ -54,22 +54,19 @@ pub struct Turn {
 pub fn phase_of(simulation: Simulation) -> Phase
     ensures { result ≡ simulation.phase }
 {
-    let phase = simulation.phase;
-    phase
+    simulation.phase
 }
 
 // How many seconds are still to be worked.
 pub fn seconds_left(simulation: Simulation) -> u32
     ensures { result ≡ simulation.course.left }
 {
-    let course = simulation.course;
-    seconds_to_work(course)
+    seconds_to_work(simulation.course)
 }
 
 // How many seconds are worked.
 pub fn seconds_done(simulation: Simulation) -> u32
     ensures { result ≡ simulation.course.run.done }
 {
-    let course = simulation.course;
-    seconds_worked(course)
+    seconds_worked(simulation.course)
 }
