@@ -5,7 +5,6 @@ use crate::configuration::chosen;
 use crate::setpoint::{held_after, wanted_for};
 use rules::run::Watts;
 use rules::station::Station;
-use words::arithmetic::over_u32;
 
 // What steps 9 and 10 come to: the setpoint held, and the number of the configuration called.
 #[derive(Clone, Copy)]
@@ -29,10 +28,12 @@ pub fn commit(
 ) -> Committed
     ensures { CommittedBy st caps.now barred setpoint called since second watts sheddable result }
 {
-    let control = st.control;
-    let rest = over_u32(over_u32(watts.load, watts.shed), watts.solar);
-    let wanted = wanted_for(control, rest, watts.solar, watts.shed, sheddable);
-    let held = held_after(control.k, setpoint, wanted);
+    let rest = watts
+        .load
+        .saturating_sub(watts.shed)
+        .saturating_sub(watts.solar);
+    let wanted = wanted_for(st.control, rest, watts.solar, watts.shed, sheddable);
+    let held = held_after(st.control.k, setpoint, wanted);
     let call = chosen(st, caps, barred, held, called, since, second);
     Committed { held, call }
 }

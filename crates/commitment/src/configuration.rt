@@ -1,5 +1,5 @@
 // Step 10: the configuration called.
-ghost use Rattle.std.specs.Prelude.{◌≡◌, ◌<◌, ◌≤◌, min, length, take};
+ghost use Rattle.std.specs.Prelude.{◌≡◌, ◌<◌, ◌≤◌, min, length, take, slice_index, MatchOption};
 ghost use Rattle.rules.specs.Setpoint.{covers};
 ghost use Rattle.rules.specs.Configuration.{mask_called, since_after};
 ghost use Rattle.rules.specs.Share.{capacity};
@@ -8,7 +8,7 @@ ghost use Rattle.commitment.specs.Choice.{capacities, usable_of, usable_covering
 use gensets::share::capacity;
 use rules::station::{GenSet, Station};
 use station_fields::ranges;
-use words::arithmetic::{byte_u32, over};
+use std::array::from_fn;
 
 // A configuration's mask of sets by its number; 0 and a number past the table call no set.
 pub fn mask_called(configs: [u8; 64], called: usize) -> u32
@@ -39,12 +39,6 @@ fn usable(mask: u32, barred: u32) -> bool
     (0 < mask) & (mask & barred == 0)
 }
 
-fn usable_covering(barred: u32, held: f64, mask: u32, cap: u32) -> bool
-    ensures { result ≡ usable_covering_of barred held mask cap }
-{
-    usable(mask, barred) & covers(held, cap)
-}
-
 // The capacity of a mask; that of a station's sets always fits.
 pub fn capacity_fitting(sets: [GenSet; 8], mask: u32) -> u32
     ensures { result ≡ min (capacity sets mask) 4_294_967_295 }
@@ -53,47 +47,14 @@ pub fn capacity_fitting(sets: [GenSet; 8], mask: u32) -> u32
     if mask == 0 {
         return 0;
     }
-    let cap = capacity(sets, mask);
-    if 4_294_967_295 < cap {
-        return 4_294_967_295;
-    }
-    cap as u32
+    capacity(sets, mask).min(4_294_967_295) as u32
 }
 
 // Each configuration's capacity: the same in every second of a station, so that many seconds ask it once.
 pub fn capacities(sets: [GenSet; 8], configs: [u8; 64]) -> [u32; 64]
     ensures { result ≡ capacities sets configs }
 {
-    let mut caps = [0u32; 64];
-    let mut i: usize = 0;
-    while i < 64 {
-        caps[i] = capacity_fitting(sets, byte_u32(configs[i]));
-        i += 1;
-    }
-    caps
-}
-
-// The number of the first usable configuration that covers what is held, or 0.
-fn first_covering(
-    configs: &[u8; 64],
-    caps: &[u32; 64],
-    configcount: usize,
-    barred: u32,
-    held: f64,
-) -> usize
-    requires { (length configs.now ≡ 64) × (configcount ≤ 64) }
-    ensures { result ≡ first_covering_of caps.now barred held 0 (take configcount configs.now) }
-{
-    let mut i: usize = 0;
-    while i < configcount {
-        let mask = byte_u32(configs[i]);
-        let cap = caps[i];
-        i += 1;
-        if usable_covering(barred, held, mask, cap) {
-            return i;
-        }
-    }
-    0
+    from_fn(|i| capacity_fitting(sets, configs[i] as u32))
 }
 
 // A usable configuration's number and its capacity; 0 and 0 for none.
@@ -111,60 +72,67 @@ fn greater(greatest: Greatest, barred: u32, mask: u32, cap: u32, number: usize) 
         return greatest;
     }
     if greatest.most < cap {
-        return Greatest {
-            number: number,
-            most: cap,
-        };
+        return Greatest { number, most: cap };
     }
     greatest
 }
 
-// The number of the usable configuration of greatest capacity, the first of equals, or 0.
-fn greatest_usable(configs: &[u8; 64], caps: &[u32; 64], configcount: usize, barred: u32) -> usize
-    requires { (length configs.now ≡ 64) × (configcount ≤ 64) }
-    ensures { result ≡ greatest_usable_of caps.now barred none 0 (take configcount configs.now) }
-{
-    let mut greatest = Greatest { number: 0, most: 0 };
-    let mut i: usize = 0;
-    while i < configcount {
-        let mask = byte_u32(configs[i]);
-        let cap = caps[i];
-        i += 1;
-        greatest = greater(greatest, barred, mask, cap, i);
-    }
-    greatest.number
-}
-
-// A record's count of configurations, no larger than its table.
-fn in_table(configcount: usize) -> usize
-    ensures { (result ≡ min configcount 64) × (result ≤ 64) }
-{
-    if configcount < ranges::CONFIGURATIONS_MOST {
-        configcount
-    } else {
-        ranges::CONFIGURATIONS_MOST
-    }
-}
-
-// Whether the called configuration is usable and covers what is held; 0 and a number past the table are no configuration.
-fn called_covers(
-    configs: &[u8; 64],
-    caps: &[u32; 64],
+// What a second chooses among: each configuration's mask and its capacity, and the mask of the barred sets.
+#[derive(Clone, Copy)]
+struct Choices<'a> {
+    configs: &'a [u8; 64],
+    caps: &'a [u32; 64],
     barred: u32,
-    held: f64,
-    called: usize,
-) -> bool
-    requires { length configs.now ≡ 64 }
-    ensures { result ≡ called_covers configs.now caps.now barred held called }
-{
-    if called == 0 {
-        return false;
+    ghost whole: { length configs.now ≡ 64 },
+}
+
+impl Choices<'_> {
+    // Whether the configuration at a place is usable and covers what is held.
+    fn covers_at(&self, place: usize, held: f64) -> bool
+        requires { place < 64 }
+        ensures { result ≡ usable_covering_of self.now.barred held (slice_index self.now.configs.now place) (slice_index self.now.caps.now place) }
+    {
+        usable(self.configs[place] as u32, self.barred) & covers(held, self.caps[place])
     }
-    if called > ranges::CONFIGURATIONS_MOST {
-        return false;
+
+    // The number of the first usable configuration that covers what is held.
+    fn first_covering(&self, configcount: usize, held: f64) -> Option<usize>
+        requires { configcount ≤ 64 }
+        ensures { MatchOption result (first_covering_of self.now.caps.now self.now.barred held 0 (take configcount self.now.configs.now) ≡ 0) (λ number. (0 < number) × (number ≡ first_covering_of self.now.caps.now self.now.barred held 0 (take configcount self.now.configs.now))) }
+    {
+        for place in 0..configcount {
+            if self.covers_at(place, held) {
+                return Some(place + 1);
+            }
+        }
+        None
     }
-    let place = called - 1;
-    usable_covering(barred, held, byte_u32(configs[place]), caps[place])
+
+    // The number of the usable configuration of greatest capacity, the first of equals, or 0.
+    fn greatest_usable(&self, configcount: usize) -> usize
+        requires { configcount ≤ 64 }
+        ensures { result ≡ greatest_usable_of self.now.caps.now self.now.barred none 0 (take configcount self.now.configs.now) }
+    {
+        let mut greatest = Greatest { number: 0, most: 0 };
+        for place in 0..configcount {
+            let mask = self.configs[place] as u32;
+            greatest = greater(greatest, self.barred, mask, self.caps[place], place + 1);
+        }
+        greatest.number
+    }
+
+    // Whether the called configuration is usable and covers what is held; 0 and a number past the table are no configuration.
+    fn called_covers(&self, called: usize, held: f64) -> bool
+        ensures { result ≡ called_covers self.now.configs.now self.now.caps.now self.now.barred held called }
+    {
+        if called == 0 {
+            return false;
+        }
+        if called > ranges::CONFIGURATIONS_MOST {
+            return false;
+        }
+        self.covers_at(called - 1, held)
+    }
 }
 
 // The number of the configuration called in a second, after `called`, which is called since second `since`, by the mask of the
@@ -180,17 +148,20 @@ pub fn chosen(
 ) -> usize
     ensures { result ≡ chosen_of st caps.now barred held called since second }
 {
-    let configs = st.configs;
-    let recent = over(second as u64, since as u64) < st.control.minseconds as u64;
-    if called_covers(&configs, caps, barred, held, called) & recent {
+    let choices = Choices {
+        configs: &st.configs,
+        caps,
+        barred,
+    };
+    let recent = second.saturating_sub(since) < st.control.minseconds;
+    if choices.called_covers(called, held) & recent {
         return called;
     }
-    let configcount = in_table(st.configcount);
-    let first = first_covering(&configs, caps, configcount, barred, held);
-    if 0 < first {
-        return first;
+    let configcount = st.configcount.min(ranges::CONFIGURATIONS_MOST);
+    match choices.first_covering(configcount, held) {
+        Some(first) => first,
+        None => choices.greatest_usable(configcount),
     }
-    greatest_usable(&configs, caps, configcount, barred)
 }
 
 // "The since-second changes only when the number does."

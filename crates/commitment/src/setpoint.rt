@@ -4,7 +4,6 @@ ghost use Rattle.rules.specs.Setpoint.{coverage_of, reserve, wanted_for, filter_
 
 use rules::run::Filter;
 use rules::station::Control;
-use words::arithmetic::{larger, over};
 
 fn coverage_of(control: Control, solar: u32) -> u64
     ensures { result ≡ coverage_of control solar }
@@ -18,27 +17,27 @@ fn reserve(control: Control, solar: u32, live: u64) -> u64
     let spinning = control.spinning as u64;
     let coverage = coverage_of(control, solar);
     if control.maintain == 1 {
-        return larger(spinning, over(coverage, live));
+        return spinning.max(coverage.saturating_sub(live));
     }
-    over(larger(spinning, coverage), live)
+    spinning.max(coverage).saturating_sub(live)
 }
 
 // What is wanted of the sets, in W.
 pub fn wanted_for(control: Control, rest: u32, solar: u32, off: u32, sheddable: u32) -> u64
     ensures { result ≡ wanted_for control rest solar off sheddable }
 {
-    let live = over(sheddable as u64, off as u64);
+    let live = sheddable.saturating_sub(off) as u64;
     (rest as u64) + reserve(control, solar, live)
 }
 
 fn filter_of(k: u32, held: f64) -> Filter
     ensures { result ≡ filter_of k held }
 {
-    let rest = over(1000, k as u64);
+    let rest = 1000u64.saturating_sub(k as u64);
     Filter {
         oldweight: k as f64 / 1000.0,
         newweight: rest as f64 / 1000.0,
-        held: held,
+        held,
     }
 }
 
@@ -46,9 +45,8 @@ fn filtered(f: Filter, wanted: f64) -> Filter
     ensures { result ≡ filtered f wanted }
 {
     Filter {
-        oldweight: f.oldweight,
-        newweight: f.newweight,
         held: f.held * f.oldweight + wanted * f.newweight,
+        ..f
     }
 }
 

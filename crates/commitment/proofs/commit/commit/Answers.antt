@@ -4,6 +4,6 @@ use Rattle.commitment.proofs.commit.commit.Goals as goal
 
 pub returns : goal.returns
 returns c = record {
-  held = c.held_after-held.ensures ∙ rw (c.wanted_for-wanted.ensures, c.over_u32-rest.ensures, c.over_u32.ensures);
+  held = c.held_after-held.ensures ∙ rw (c.wanted_for-wanted.ensures, c.saturating_sub-rest.ensures, c.saturating_sub.ensures);
   call = c.chosen-call.ensures;
 }

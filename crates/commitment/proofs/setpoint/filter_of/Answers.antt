@@ -7,8 +7,8 @@ use Rattle.commitment.proofs.Floats.{whole}
 use Rattle.commitment.proofs.setpoint.filter_of.Goals as goal
 
 pub int_to_float-result-2 : goal.int_to_float-result-2
-int_to_float-result-2 c = whole c.over-rest.result (omega (arith, c.over-rest.ensures))
+int_to_float-result-2 c = whole c.saturating_sub-rest.result (omega (arith, c.saturating_sub-rest.ensures))
 
 pub returns : goal.returns
 unfolding filter_of thousandths float of_int of_bits
-returns c = rw c.over-rest.ensures
+returns c = rw c.saturating_sub-rest.ensures

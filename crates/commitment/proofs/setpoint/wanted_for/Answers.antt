@@ -7,8 +7,8 @@ use Rattle.commitment.proofs.setpoint.wanted_for.Goals as goal
 pub overflow_add-result : goal.overflow_add-result
 overflow_add-result c =
     let s = c.args in
-    record { fits = omega (arith, c.reserve.ensures, reserve-most s.control s.solar c.over-live.result (search rules) (search rules) (search rules)) }
+    record { fits = omega (arith, c.reserve.ensures, reserve-most s.control s.solar c.saturating_sub-live.result (search rules) (search rules) (search rules)) }
 
 pub returns : goal.returns
 unfolding wanted_for
-returns c = rw (c.reserve.ensures, c.over-live.ensures)
+returns c = rw (c.reserve.ensures, c.saturating_sub-live.ensures)

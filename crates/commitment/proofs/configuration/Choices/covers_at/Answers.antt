@@ -1,6 +1,6 @@
--- `commitment::configuration::usable_covering` meets its contract. Assumes nothing.
+-- `commitment::configuration::Choices::covers_at` meets its contract. Assumes nothing.
 use Rattle.commitment.specs.Choice.{usable_covering_of}
-use Rattle.commitment.proofs.configuration.usable_covering.Goals as goal
+use Rattle.commitment.proofs.configuration.Choices.covers_at.Goals as goal
 
 pub returns : goal.returns
 unfolding usable_covering_of
