@@ -62,7 +62,9 @@ fn watts_of(cell: &[u8]) -> Option<u32>
 fn limited(limit: u32, number: Option<u32>) -> Result<u32, CellFault>
     ensures { (line : ℕ) (form : Bool) (v : ℕ) → number ≡ formed form v → cell_of line result ≡ limited line limit form v }
 {
-    let value = number.ok_or(CellFault::Malformed)?;
+    let Some(value) = number else {
+        return Err(CellFault::Malformed);
+    };
     if limit < value {
         return Err(CellFault::OverLimit);
     }

@@ -23,13 +23,14 @@ pub struct Powers {
 fn cell_value(line: u64, name: u8, part: &[u8]) -> Result<u32, Refusal>
     ensures { result_of result ≡ cell line sample_sheet.limits name part.now }
 {
-    match cell_under(name, part) {
-        Ok(value) => Ok(value),
-        Err(fault) => Err(match fault {
-            CellFault::Malformed => Refusal::Malformed(line),
-            CellFault::OverLimit => Refusal::OverLimit(line),
-        }),
-    }
+    let cell = cell_under(name, part);
+    let Ok(value) = cell else {
+        return Err(match cell {
+            Err(CellFault::OverLimit) => Refusal::OverLimit(line),
+            Ok(_) | Err(CellFault::Malformed) => Refusal::Malformed(line),
+        });
+    };
+    Ok(value)
 }
 
 // The value of the first column after the time's that has this name.
