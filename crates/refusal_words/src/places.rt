@@ -2,8 +2,6 @@
 ghost use Rattle.std.specs.Prelude.{◌≡◌};
 ghost use Rattle.refusal_words.specs.Places.{place_of, line_or, configuration_or_call};
 
-use plain_words::numbers::number;
-use plain_words::texts::say;
 use rules::answers::Refusal;
 use std::io::Write;
 
@@ -77,30 +75,24 @@ pub fn place_of(refusal: Refusal) -> Place
 }
 
 // Of which file or argument it is.
-pub(crate) fn say_subject<W: Write>(err: &mut W, place: Place) {
+pub(crate) fn subject_of(place: Place) -> &'static str {
     match place {
-        Place::StationFile | Place::Entry(_) | Place::Set(_) => say(err, b"the station file"),
-        Place::Configuration(_) => say(err, b"the station file"),
-        Place::SampleFile | Place::Line(_) => say(err, b"the sample file"),
-        Place::Seconds => say(err, b"SECONDS"),
-        Place::Call => say(err, b"a call"),
+        Place::StationFile | Place::Entry(_) | Place::Set(_) | Place::Configuration(_) => {
+            "the station file"
+        }
+        Place::SampleFile | Place::Line(_) => "the sample file",
+        Place::Seconds => "SECONDS",
+        Place::Call => "a call",
     }
-}
-
-fn say_counted<W: Write>(err: &mut W, what: &[u8], count: u64) {
-    say(err, what);
-    number(err, count);
 }
 
 // What the place counts, after a comma; nothing where it counts nothing.
 pub fn say_place<W: Write>(err: &mut W, place: Place) {
-    match place {
-        Place::StationFile | Place::SampleFile | Place::Seconds | Place::Call => {}
-        Place::Entry(entry) => say_counted(err, b", entry ", entry as u64),
-        Place::Set(set) => say_counted(err, b", set ", set as u64),
-        Place::Configuration(configuration) => {
-            say_counted(err, b", configuration ", configuration as u64)
-        }
-        Place::Line(line) => say_counted(err, b", line ", line),
-    }
+    let _ = match place {
+        Place::StationFile | Place::SampleFile | Place::Seconds | Place::Call => Ok(()),
+        Place::Entry(entry) => write!(err, ", entry {entry}"),
+        Place::Set(set) => write!(err, ", set {set}"),
+        Place::Configuration(configuration) => write!(err, ", configuration {configuration}"),
+        Place::Line(line) => write!(err, ", line {line}"),
+    };
 }

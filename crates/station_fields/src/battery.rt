@@ -7,8 +7,8 @@ pub const POWER: Field = Field {
     width: 4,
     least: 0,
     most: 50_000_000,
-    words: *b"power                     ",
-    unit: *b" W                        ",
+    words: "power",
+    unit: " W",
 };
 
 // "efficiency % 1 to 100"
@@ -17,8 +17,8 @@ pub const EFFICIENCY: Field = Field {
     width: 4,
     least: 1,
     most: 100,
-    words: *b"efficiency                ",
-    unit: *b" %                        ",
+    words: "efficiency",
+    unit: " %",
 };
 
 // "least <= start <= most <= 10,000,000,000,000": none of the three is above it
@@ -27,8 +27,8 @@ pub const LEAST_CONTENT: Field = Field {
     width: 8,
     least: 0,
     most: 10_000_000_000_000,
-    words: *b"least content             ",
-    unit: *b" hundredths of a Ws       ",
+    words: "least content",
+    unit: " hundredths of a Ws",
 };
 
 // the same
@@ -37,8 +37,8 @@ pub const MOST_CONTENT: Field = Field {
     width: 8,
     least: 0,
     most: 10_000_000_000_000,
-    words: *b"most content              ",
-    unit: *b" hundredths of a Ws       ",
+    words: "most content",
+    unit: " hundredths of a Ws",
 };
 
 // the same
@@ -47,8 +47,8 @@ pub const START_CONTENT: Field = Field {
     width: 8,
     least: 0,
     most: 10_000_000_000_000,
-    words: *b"content at the start      ",
-    unit: *b" hundredths of a Ws       ",
+    words: "content at the start",
+    unit: " hundredths of a Ws",
 };
 
 // All of them, in their order.

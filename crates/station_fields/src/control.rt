@@ -7,8 +7,8 @@ pub const SPINNING: Field = Field {
     width: 4,
     least: 0,
     most: 50_000_000,
-    words: *b"spinning reserve          ",
-    unit: *b" W                        ",
+    words: "spinning reserve",
+    unit: " W",
 };
 
 // "coverage % 0 to 100"
@@ -17,8 +17,8 @@ pub const COVERAGE: Field = Field {
     width: 4,
     least: 0,
     most: 100,
-    words: *b"solar coverage            ",
-    unit: *b" %                        ",
+    words: "solar coverage",
+    unit: " %",
 };
 
 // "minimum load % 0 to 100"
@@ -27,8 +27,8 @@ pub const MINIMUM_LOAD: Field = Field {
     width: 4,
     least: 0,
     most: 100,
-    words: *b"minimum load              ",
-    unit: *b" %                        ",
+    words: "minimum load",
+    unit: " %",
 };
 
 // "shed % 0 to 100"
@@ -37,8 +37,8 @@ pub const SHED: Field = Field {
     width: 4,
     least: 0,
     most: 100,
-    words: *b"shed                      ",
-    unit: *b" %                        ",
+    words: "shed",
+    unit: " %",
 };
 
 // "shed delay s 1 to 60"
@@ -47,8 +47,8 @@ pub const SHED_DELAY: Field = Field {
     width: 4,
     least: 1,
     most: 60,
-    words: *b"shed delay                ",
-    unit: *b" s                        ",
+    words: "shed delay",
+    unit: " s",
 };
 
 // "filter k 0 to 999"
@@ -57,8 +57,8 @@ pub const FILTER_K: Field = Field {
     width: 4,
     least: 0,
     most: 999,
-    words: *b"filter k                  ",
-    unit: *b" thousandths              ",
+    words: "filter k",
+    unit: " thousandths",
 };
 
 // "minimum seconds 0 to 86,400"
@@ -67,8 +67,8 @@ pub const MINIMUM_SECONDS: Field = Field {
     width: 4,
     least: 0,
     most: 86_400,
-    words: *b"minimum seconds           ",
-    unit: *b" s                        ",
+    words: "minimum seconds",
+    unit: " s",
 };
 
 // "maintain 0 or 1"
@@ -77,8 +77,8 @@ pub const MAINTAIN: Field = Field {
     width: 4,
     least: 0,
     most: 1,
-    words: *b"maintain                  ",
-    unit: *b"                          ",
+    words: "maintain",
+    unit: "",
 };
 
 // "mask of sets on line at the start, existing sets only": the checks ask which sets exist, and not this range, which follows from it
@@ -88,8 +88,8 @@ pub const ON_LINE: Field = Field {
     width: 4,
     least: 0,
     most: 255,
-    words: *b"sets on line at the start ",
-    unit: *b"                          ",
+    words: "sets on line at the start",
+    unit: "",
 };
 
 // All of them, in their order.

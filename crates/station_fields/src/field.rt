@@ -1,8 +1,5 @@
 // A number of a station file, by its place in its body. The reader, the checks and what a clerk is told go by these rows alone.
 
-// How many bytes words and units have, filled up with spaces.
-pub const WORDS: usize = 26;
-
 #[derive(Clone, Copy)]
 pub struct Field {
     // in bytes, from the start of its body
@@ -13,6 +10,6 @@ pub struct Field {
     pub least: u64,
     pub most: u64,
     // what a clerk is told of it
-    pub words: [u8; 26],
-    pub unit: [u8; 26],
+    pub words: &'static str,
+    pub unit: &'static str,
 }

@@ -7,8 +7,8 @@ pub const RATING: Field = Field {
     width: 4,
     least: 1,
     most: 10_000_000,
-    words: *b"rating                    ",
-    unit: *b" W                        ",
+    words: "rating",
+    unit: " W",
 };
 
 // "warm-up s and cool-down s, each 1 to 3,600"
@@ -17,8 +17,8 @@ pub const WARM_UP: Field = Field {
     width: 4,
     least: 1,
     most: 3_600,
-    words: *b"warm-up                   ",
-    unit: *b" s                        ",
+    words: "warm-up",
+    unit: " s",
 };
 
 // the same
@@ -27,8 +27,8 @@ pub const COOL_DOWN: Field = Field {
     width: 4,
     least: 1,
     most: 3_600,
-    words: *b"cool-down                 ",
-    unit: *b" s                        ",
+    words: "cool-down",
+    unit: " s",
 };
 
 // "service interval in run seconds 0 to 100,000,000"
@@ -37,8 +37,8 @@ pub const SERVICE_INTERVAL: Field = Field {
     width: 4,
     least: 0,
     most: 100_000_000,
-    words: *b"service interval          ",
-    unit: *b" run seconds              ",
+    words: "service interval",
+    unit: " run seconds",
 };
 
 // "service time s 1 to 2,592,000, but 0 where the interval is 0"
@@ -47,8 +47,8 @@ pub const SERVICE_TIME: Field = Field {
     width: 4,
     least: 0,
     most: 2_592_000,
-    words: *b"service time              ",
-    unit: *b" s                        ",
+    words: "service time",
+    unit: " s",
 };
 
 // "points 2 to 5"
@@ -57,8 +57,8 @@ pub const POINTS: Field = Field {
     width: 4,
     least: 2,
     most: 5,
-    words: *b"number of points          ",
-    unit: *b"                          ",
+    words: "number of points",
+    unit: "",
 };
 
 // The numbers before the pairs, in their order.
@@ -77,8 +77,8 @@ pub const PAIR_LOAD: Field = Field {
     width: 4,
     least: 0,
     most: 1_500,
-    words: *b"load                      ",
-    unit: *b" thousandths of the rating",
+    words: "load",
+    unit: " thousandths of the rating",
 };
 
 // "mL/h 0 to 10,000,000"
@@ -87,8 +87,8 @@ pub const PAIR_RATE: Field = Field {
     width: 4,
     least: 0,
     most: 10_000_000,
-    words: *b"rate                      ",
-    unit: *b" mL/h                     ",
+    words: "rate",
+    unit: " mL/h",
 };
 
 // A pair, by its place in the pair.

@@ -1,9 +1,0 @@
--- The end falls, and stays within the text.
-use Rattle.std.proofs.Common.{◌≤◌, length}
-use Rattle.plain_words.proofs.texts.end_of.Given as goal
-
-abbrev pub invariant-loop-end : goal.invariant-loop-end
-invariant-loop-end l = l.end ≤ length l.text
-
-abbrev pub decreases-loop-end : goal.decreases-loop-end
-decreases-loop-end l = l.end
