@@ -2,11 +2,10 @@
 ghost use Rattle.std.specs.Prelude.{◌≤◌};
 
 use crate::numbers::{from_place, from_zero, mask_at, number_at, number_of, set_at, setcount_of};
-use crate::ranges::{say_found, say_mask_rule};
+use crate::ranges::{Found, say_mask_rule};
 use crate::row_faults::ask_rows;
-use crate::rows::{Body, row_at};
-use plain_words::numbers::number;
-use plain_words::texts::{say, say_filled};
+use crate::rows::Body;
+use plain_words::texts::say;
 use station_fields::genset::{PAIR_LOAD, POINTS};
 use station_fields::layout::{BATTERY_AT, CONTROL_AT, PAIR_SIZE, PAIRS, PAIRS_OFFSET};
 use std::io::Write;
@@ -14,11 +13,6 @@ use std::io::Write;
 const POINTS_AT: usize = POINTS.offset;
 
 const POINTS_WIDTH: usize = POINTS.width;
-
-// A pair's first row.
-const LOAD_AT: usize = PAIR_LOAD.offset;
-
-const LOAD_WIDTH: usize = PAIR_LOAD.width;
 
 // 4
 pub fn say_control<W: Write>(err: &mut W, file: &[u8]) {
@@ -34,31 +28,34 @@ pub fn say_battery<W: Write>(err: &mut W, file: &[u8]) {
     ask_rows(err, from_place(file, BATTERY_AT), Body::Battery);
 }
 
-fn say_wrong<W: Write>(err: &mut W, what: &[u8], count: u32) {
-    say(err, what);
-    number(err, count as u64);
-    say(err, b" is wrong.\n");
+fn say_wrong<W: Write>(err: &mut W, what: &str, count: u32) {
+    let _ = write!(err, "check: station file, {what} {count} is wrong.\n");
 }
 
 // 6
 pub fn say_set_numbers<W: Write>(err: &mut W, file: &[u8], set: u32) {
-    say_wrong(err, b"check: station file, set ", set);
+    say_wrong(err, "set", set);
     ask_rows(err, set_at(file, from_zero(set)), Body::Set);
 }
 
 // "Loads rise strictly."
 fn ask_rise<W: Write>(err: &mut W, bytes: &[u8], before: u64, place: usize) {
-    let row = row_at(Body::Pair(place), 0);
+    let row = PAIR_LOAD;
     let load = number_of(bytes, row);
     if before < load {
         return;
     }
-    say_found(err, Body::Pair(place), row, load);
+    let found = Found {
+        body: Body::Pair(place),
+        row,
+        value: load,
+    };
+    found.say(err);
     let unit = row.unit;
-    say_filled(err, &unit);
-    say(err, b"; right is a load above that of the pair before it, ");
-    number(err, before);
-    say(err, b".\n");
+    let _ = write!(
+        err,
+        "{unit}; right is a load above that of the pair before it, {before}.\n",
+    );
 }
 
 // The set's pair at a place from 0.
@@ -73,8 +70,12 @@ fn ask_pair<W: Write>(err: &mut W, set: &[u8], points: u64, place: usize)
     }
     ask_rows(err, bytes, Body::Pair(place));
     if 0 < place {
-        let before = number_at(from_place(set, at - PAIR_SIZE), LOAD_AT, LOAD_WIDTH);
-        ask_rise(err, bytes, before, place);
+        ask_rise(
+            err,
+            bytes,
+            number_of(from_place(set, at - PAIR_SIZE), PAIR_LOAD),
+            place,
+        );
     }
 }
 
@@ -82,17 +83,14 @@ fn ask_pair<W: Write>(err: &mut W, set: &[u8], points: u64, place: usize)
 pub fn say_set_pairs<W: Write>(err: &mut W, file: &[u8], set: u32) {
     let body = set_at(file, from_zero(set));
     let points = number_at(body, POINTS_AT, POINTS_WIDTH);
-    say_wrong(err, b"check: station file, set ", set);
-    let mut place: usize = 0;
-    while place < PAIRS {
+    say_wrong(err, "set", set);
+    for place in 0..PAIRS {
         ask_pair(err, body, points, place);
-        place += 1;
     }
 }
 
 fn say_mask_fault<W: Write>(err: &mut W, mask: u64, setcount: usize) {
-    say(err, b"check: station file, its mask is ");
-    number(err, mask);
+    let _ = write!(err, "check: station file, its mask is {mask}");
     if mask == 0 {
         say(
             err,
@@ -105,7 +103,7 @@ fn say_mask_fault<W: Write>(err: &mut W, mask: u64, setcount: usize) {
 
 // 8
 pub fn say_configuration<W: Write>(err: &mut W, file: &[u8], configuration: u32) {
-    say_wrong(err, b"check: station file, configuration ", configuration);
+    say_wrong(err, "configuration", configuration);
     say_mask_fault(
         err,
         mask_at(file, from_zero(configuration)),

@@ -1,8 +1,6 @@
 // Refusals 1, 2 and 3 for a clerk: the size of a station file, and its table of contents.
 use crate::numbers::{configcount_of, configurations_at, from_place, from_zero, number_at};
 use crate::ranges::ask;
-use plain_words::numbers::number;
-use plain_words::texts::say;
 use station_fields::layout::{
     BATTERY_AT, CONFIGURATIONS_PART, CONTROL_AT, COUNTS, ENTRY_COUNT, ENTRY_OFFSET, ENTRY_SIZE,
     KINDS, PARTS, Part, SET_SIZE, SETS_AT, SETS_PART,
@@ -23,24 +21,18 @@ const MOST_COUNTED: usize = 4096;
 
 // 1. Of a file that is too long only its size is known, since its bytes are not held.
 pub fn say_size<W: Write>(err: &mut W, size: usize) {
-    if MOST_COUNTED <= size {
-        ask(
-            err,
-            b"check: station file, its size is ",
-            MOST_COUNTED as u64,
-            LEAST_SIZE,
-            MOST_SIZE,
-            b" bytes or more",
-        );
-        return;
-    }
+    let unit = if MOST_COUNTED <= size {
+        " bytes or more"
+    } else {
+        " bytes"
+    };
     ask(
         err,
-        b"check: station file, its size is ",
-        size as u64,
+        "its size",
+        size.min(MOST_COUNTED) as u64,
         LEAST_SIZE,
         MOST_SIZE,
-        b" bytes",
+        unit,
     );
 }
 
@@ -62,39 +54,38 @@ fn body_at(file: &[u8], place: usize) -> usize {
 
 // An entry of the table of contents: its kind, its count and its offset.
 fn ask_entry<W: Write>(err: &mut W, entry: &[u8], part: Part, offset: u64) {
-    let kinds = KINDS;
-    let counts = COUNTS;
     ask(
         err,
-        b"check: station file, kind of that entry is ",
+        "kind of that entry",
         number_at(entry, 0, ENTRY_COUNT),
         part.kind,
         part.kind,
-        &kinds,
+        KINDS,
     );
     ask(
         err,
-        b"check: station file, count of that entry is ",
+        "count of that entry",
         number_at(entry, ENTRY_COUNT, ENTRY_OFFSET - ENTRY_COUNT),
         part.least,
         part.most,
-        &counts,
+        COUNTS,
     );
     ask(
         err,
-        b"check: station file, offset of that entry is ",
+        "offset of that entry",
         number_at(entry, ENTRY_OFFSET, ENTRY_SIZE - ENTRY_OFFSET),
         offset,
         offset,
-        b" (the bodies follow without gaps)",
+        " (the bodies follow without gaps)",
     );
 }
 
 // 2
 pub fn say_entry<W: Write>(err: &mut W, file: &[u8], entry: u32) {
-    say(err, b"check: station file, entry ");
-    number(err, entry as u64);
-    say(err, b" of the table of contents is wrong.\n");
+    let _ = write!(
+        err,
+        "check: station file, entry {entry} of the table of contents is wrong.\n",
+    );
     let place = from_zero(entry);
     ask_entry(
         err,
@@ -113,10 +104,10 @@ pub fn say_contents_size<W: Write>(err: &mut W, file: &[u8]) {
     let size = configurations_at(file) as u64 + configcount;
     ask(
         err,
-        b"check: station file, its size is ",
+        "its size",
         file.len() as u64,
         size,
         size,
-        b" bytes, by its table of contents",
+        " bytes, by its table of contents",
     );
 }

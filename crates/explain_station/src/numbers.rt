@@ -14,30 +14,16 @@ const CONFIGCOUNT_AT: usize = 3 * ENTRY_SIZE + ENTRY_COUNT;
 
 const COUNT_WIDTH: usize = ENTRY_OFFSET - ENTRY_COUNT;
 
-const MOST_SETS: usize = SETS_PART.most as usize;
-
 const CONFIGURATION_SIZE: usize = CONFIGURATIONS_PART.size;
 
 // The number in `width` bytes at a place of a part, 0 where the part has not all of them.
 pub(crate) fn number_at(part: &[u8], at: usize, width: usize) -> u64 {
-    let size = part.len();
-    if size < width {
-        return 0;
-    }
-    if size - width < at {
-        return 0;
-    }
-    let end = at + width;
-    little(&part[at..end])
+    from_place(part, at).get(..width).map_or(0, little)
 }
 
 // A file or a body from a place on; nothing past its end.
 pub(crate) fn from_place(bytes: &[u8], at: usize) -> &[u8] {
-    if at <= bytes.len() {
-        &bytes[at..]
-    } else {
-        &bytes[..0]
-    }
+    bytes.get(at..).unwrap_or(&[])
 }
 
 // A row's number, of the body that the bytes start with.
@@ -49,11 +35,7 @@ pub(crate) fn number_of(bytes: &[u8], row: Field) -> u64 {
 pub(crate) fn setcount_of(file: &[u8]) -> usize
     ensures { result ≤ 8 }
 {
-    let count = number_at(file, SETCOUNT_AT, COUNT_WIDTH);
-    if MOST_SETS as u64 <= count {
-        return MOST_SETS;
-    }
-    count as usize
+    number_at(file, SETCOUNT_AT, COUNT_WIDTH).min(SETS_PART.most) as usize
 }
 
 // How many configurations the contents give.
@@ -65,10 +47,7 @@ pub(crate) fn configcount_of(file: &[u8]) -> u64 {
 pub(crate) fn from_zero(number: u32) -> usize
     ensures { result < 4294967296 }
 {
-    if number == 0 {
-        return 0;
-    }
-    number as usize - 1
+    number.saturating_sub(1) as usize
 }
 
 // The file from the set at a place on, counted from 0.

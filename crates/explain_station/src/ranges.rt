@@ -1,90 +1,80 @@
 // A number of a station file that was refused, with its range where it lies outside. Each message starts with the file.
 use crate::rows::Body;
-use plain_words::numbers::{number, number_from_one};
-use plain_words::texts::{say, say_filled};
 use station_fields::field::Field;
+use std::fmt;
 use std::io::Write;
 
-fn say_pair<W: Write>(err: &mut W, place: usize) {
-    say(err, b"check: station file, pair ");
-    number_from_one(err, place);
-    say(err, b" of its fuel curve: ");
-}
-
-fn say_body<W: Write>(err: &mut W, body: Body) {
-    match body {
-        Body::Control(_) => say(err, b"check: station file, control: "),
-        Body::Battery => say(err, b"check: station file, battery: "),
-        Body::Set => say(err, b"check: station file, its "),
-        Body::Pair(place) | Body::UnusedPair(place) => say_pair(err, place),
+// Whose number it is, at the start of a message.
+impl fmt::Display for Body {
+    fn fmt<W: fmt::Write>(&self, f: &mut fmt::Formatter<W>) -> fmt::Result {
+        match self {
+            Body::Control(_) => write!(f, "control: "),
+            Body::Battery => write!(f, "battery: "),
+            Body::Set => write!(f, "its "),
+            Body::Pair(place) | Body::UnusedPair(place) => {
+                let number = place.saturating_add(1);
+                write!(f, "pair {number} of its fuel curve: ")
+            }
+        }
     }
 }
 
-// Which number it is and what the file has there.
-pub(crate) fn say_found<W: Write>(err: &mut W, body: Body, row: Field, value: u64) {
-    say_body(err, body);
-    let words = row.words;
-    say_filled(err, &words);
-    say(err, b" is ");
-    number(err, value);
+// A number as the file has it: of which body, which of its rows, and its value.
+#[derive(Clone, Copy)]
+pub(crate) struct Found {
+    pub(crate) body: Body,
+    pub(crate) row: Field,
+    pub(crate) value: u64,
+}
+
+impl Found {
+    // Which number it is and what the file has there.
+    pub(crate) fn say<W: Write>(&self, err: &mut W) {
+        let body = self.body;
+        let words = self.row.words;
+        let value = self.value;
+        let _ = write!(err, "check: station file, {body}{words} is {value}");
+    }
+
+    // Says of a number that is outside a range what it is and what would be right; of another, nothing.
+    pub(crate) fn ask<W: Write>(&self, err: &mut W, least: u64, most: u64, more: &str) {
+        if (least..=most).contains(&self.value) {
+            return;
+        }
+        self.say(err);
+        say_range(err, least, most, self.row.unit, more);
+    }
 }
 
 // After the number that the file has: its unit with what else is to be known of it, and the range.
-fn say_range<W: Write>(err: &mut W, least: u64, most: u64, unit: &[u8], more: &[u8]) {
-    say_filled(err, unit);
-    say(err, more);
-    say(err, b"; right is ");
-    number(err, least);
+fn say_range<W: Write>(err: &mut W, least: u64, most: u64, unit: &str, more: &str) {
+    let _ = write!(err, "{unit}{more}; right is {least}");
     if least < most {
-        say(err, b" to ");
-        number(err, most);
+        let _ = write!(err, " to {most}");
     }
-    say_filled(err, unit);
-    say(err, more);
-    say(err, b".\n");
-}
-
-// Says of a row's number that is outside a range what it is and what would be right; of another, nothing.
-pub(crate) fn ask_row<W: Write>(
-    err: &mut W,
-    body: Body,
-    row: Field,
-    value: u64,
-    least: u64,
-    most: u64,
-    more: &[u8],
-) {
-    if (least <= value) & (value <= most) {
-        return;
-    }
-    say_found(err, body, row, value);
-    let unit = row.unit;
-    say_range(err, least, most, &unit, more);
+    let _ = write!(err, "{unit}{more}.\n");
 }
 
 // The same of a number that has no row, by the words before it.
 pub(crate) fn ask<W: Write>(
     err: &mut W,
-    words: &[u8],
+    words: &str,
     value: u64,
     least: u64,
     most: u64,
-    unit: &[u8],
+    unit: &str,
 ) {
-    if (least <= value) & (value <= most) {
+    if (least..=most).contains(&value) {
         return;
     }
-    say(err, words);
-    number(err, value);
-    say_range(err, least, most, unit, b"");
+    let _ = write!(err, "check: station file, {words} is {value}");
+    say_range(err, least, most, unit, "");
 }
 
 // After a mask with a set that does not exist.
 pub(crate) fn say_mask_rule<W: Write>(err: &mut W, setcount: usize) {
-    say(
+    let _ = write!(
         err,
-        b", a mask with a set that does not exist; right is a mask of sets 1 to ",
+        ", a mask with a set that does not exist; right is a mask of sets 1 to {setcount} alone, where bit 0 is set 1.\n",
     );
-    number(err, setcount as u64);
-    say(err, b" alone, where bit 0 is set 1.\n");
 }

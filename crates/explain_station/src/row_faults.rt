@@ -1,7 +1,7 @@
 // The rows of a body one after the other: each number that is outside its row's range, or against a rule over several numbers.
-use crate::numbers::{number_at, number_of};
-use crate::ranges::{ask_row, say_found, say_mask_rule};
-use crate::rows::{Body, row_at, rows_of};
+use crate::numbers::number_of;
+use crate::ranges::{Found, say_mask_rule};
+use crate::rows::{Body, rows_of};
 use plain_words::texts::say;
 use station_fields::battery::{LEAST_CONTENT, MOST_CONTENT, START_CONTENT};
 use station_fields::control::{FILTER_K, MINIMUM_SECONDS, ON_LINE};
@@ -17,133 +17,95 @@ const START_CONTENT_AT: usize = START_CONTENT.offset;
 
 const LEAST_CONTENT_AT: usize = LEAST_CONTENT.offset;
 
-const LEAST_CONTENT_WIDTH: usize = LEAST_CONTENT.width;
-
-const MOST_CONTENT_AT: usize = MOST_CONTENT.offset;
-
-const MOST_CONTENT_WIDTH: usize = MOST_CONTENT.width;
-
 const SERVICE_TIME_AT: usize = SERVICE_TIME.offset;
-
-const INTERVAL_AT: usize = SERVICE_INTERVAL.offset;
-
-const INTERVAL_WIDTH: usize = SERVICE_INTERVAL.width;
 
 // The places of two of the control's rows.
 const FILTER_K_PLACE: usize = FILTER_K.offset / FILTER_K.width;
 
 const MINIMUM_SECONDS_PLACE: usize = MINIMUM_SECONDS.offset / MINIMUM_SECONDS.width;
 
-fn ask_range<W: Write>(err: &mut W, body: Body, row: Field, value: u64) {
-    ask_row(err, body, row, value, row.least, row.most, b"");
+// What is wrong with a number by its own range.
+fn ask_range<W: Write>(err: &mut W, found: Found) {
+    let row = found.row;
+    found.ask(err, row.least, row.most, "");
 }
 
 // "mask of sets on line at the start (bit 0 is set 1, existing sets only)"
-fn ask_online<W: Write>(err: &mut W, setcount: usize, row: Field, mask: u64) {
-    if existing_only(setcount, mask) {
+fn ask_online<W: Write>(err: &mut W, setcount: usize, found: Found) {
+    if existing_only(setcount, found.value) {
         return;
     }
-    say_found(err, Body::Control(setcount), row, mask);
+    found.say(err);
     say_mask_rule(err, setcount);
 }
 
-fn ask_control<W: Write>(err: &mut W, setcount: usize, row: Field, value: u64) {
-    if row.offset == ON_LINE_AT {
-        ask_online(err, setcount, row, value);
-        return;
+fn ask_control<W: Write>(err: &mut W, setcount: usize, found: Found) {
+    match found.row.offset {
+        ON_LINE_AT => ask_online(err, setcount, found),
+        _ => ask_range(err, found),
     }
-    ask_range(err, Body::Control(setcount), row, value);
 }
 
 // "least <= start <= most": what is wrong with the least content is told of the content at the start.
-fn ask_start<W: Write>(err: &mut W, bytes: &[u8], row: Field, start: u64) {
-    let least = number_at(bytes, LEAST_CONTENT_AT, LEAST_CONTENT_WIDTH);
-    let most = number_at(bytes, MOST_CONTENT_AT, MOST_CONTENT_WIDTH);
-    ask_row(
-        err,
-        Body::Battery,
-        row,
-        start,
-        least,
-        u64::MAX,
-        b", not below the least content",
-    );
-    ask_row(
-        err,
-        Body::Battery,
-        row,
-        start,
-        0,
-        most,
-        b", not above the most content",
-    );
+fn ask_start<W: Write>(err: &mut W, bytes: &[u8], start: Found) {
+    let least = number_of(bytes, LEAST_CONTENT);
+    let most = number_of(bytes, MOST_CONTENT);
+    start.ask(err, least, u64::MAX, ", not below the least content");
+    start.ask(err, 0, most, ", not above the most content");
 }
 
-fn ask_battery<W: Write>(err: &mut W, bytes: &[u8], row: Field, value: u64) {
-    if row.offset == START_CONTENT_AT {
-        ask_start(err, bytes, row, value);
-        return;
+fn ask_battery<W: Write>(err: &mut W, bytes: &[u8], found: Found) {
+    match found.row.offset {
+        START_CONTENT_AT => ask_start(err, bytes, found),
+        LEAST_CONTENT_AT => {}
+        _ => ask_range(err, found),
     }
-    if row.offset == LEAST_CONTENT_AT {
-        return;
-    }
-    ask_range(err, Body::Battery, row, value);
 }
 
 // "service time s 1 to 2,592,000, but 0 where the interval is 0"
-fn ask_service<W: Write>(err: &mut W, bytes: &[u8], row: Field, service: u64) {
-    if number_at(bytes, INTERVAL_AT, INTERVAL_WIDTH) == 0 {
-        ask_row(
-            err,
-            Body::Set,
-            row,
-            service,
-            0,
-            0,
-            b", since its service interval is 0 (never)",
-        );
+fn ask_service<W: Write>(err: &mut W, bytes: &[u8], service: Found) {
+    if number_of(bytes, SERVICE_INTERVAL) == 0 {
+        service.ask(err, 0, 0, ", since its service interval is 0 (never)");
         return;
     }
-    ask_row(err, Body::Set, row, service, 1, row.most, b"");
+    service.ask(err, 1, service.row.most, "");
 }
 
-fn ask_set<W: Write>(err: &mut W, bytes: &[u8], row: Field, value: u64) {
-    if row.offset == SERVICE_TIME_AT {
-        ask_service(err, bytes, row, value);
-        return;
+fn ask_set<W: Write>(err: &mut W, bytes: &[u8], found: Found) {
+    match found.row.offset {
+        SERVICE_TIME_AT => ask_service(err, bytes, found),
+        _ => ask_range(err, found),
     }
-    ask_range(err, Body::Set, row, value);
 }
 
 // "Unused pairs are zero."
-fn ask_unused<W: Write>(err: &mut W, body: Body, row: Field, value: u64) {
-    if value == 0 {
+fn ask_unused<W: Write>(err: &mut W, found: Found) {
+    if found.value == 0 {
         return;
     }
-    say_found(err, body, row, value);
+    found.say(err);
     say(err, b"; right is 0, since the set has fewer points.\n");
 }
 
 fn ask_number<W: Write>(err: &mut W, bytes: &[u8], body: Body, row: Field) {
     let value = number_of(bytes, row);
+    let found = Found { body, row, value };
     match body {
-        Body::Control(setcount) => ask_control(err, setcount, row, value),
-        Body::Battery => ask_battery(err, bytes, row, value),
-        Body::Set => ask_set(err, bytes, row, value),
-        Body::Pair(_) => ask_range(err, body, row, value),
-        Body::UnusedPair(_) => ask_unused(err, body, row, value),
+        Body::Control(setcount) => ask_control(err, setcount, found),
+        Body::Battery => ask_battery(err, bytes, found),
+        Body::Set => ask_set(err, bytes, found),
+        Body::Pair(_) => ask_range(err, found),
+        Body::UnusedPair(_) => ask_unused(err, found),
     }
 }
 
 // The seconds are told one after the other, so the minimum seconds before filter k.
 fn told_of_control(place: usize) -> usize {
-    if place == FILTER_K_PLACE {
-        return MINIMUM_SECONDS_PLACE;
+    match place {
+        FILTER_K_PLACE => MINIMUM_SECONDS_PLACE,
+        MINIMUM_SECONDS_PLACE => FILTER_K_PLACE,
+        _ => place,
     }
-    if place == MINIMUM_SECONDS_PLACE {
-        return FILTER_K_PLACE;
-    }
-    place
 }
 
 // The row that is told at a place.
@@ -157,9 +119,9 @@ fn told_place(body: Body, place: usize) -> usize {
 // What is wrong in the body that the bytes start with.
 pub(crate) fn ask_rows<W: Write>(err: &mut W, bytes: &[u8], body: Body) {
     let rows = rows_of(body);
-    let mut place = 0;
-    while place < rows {
-        ask_number(err, bytes, body, row_at(body, told_place(body, place)));
-        place += 1;
+    for place in 0..rows.len() {
+        if let Some(row) = rows.get(told_place(body, place)) {
+            ask_number(err, bytes, body, *row);
+        }
     }
 }

@@ -53,9 +53,9 @@ pub const CONFIGURATIONS_ENTRY: usize = 3;
 pub const ENTRIES: usize = 4;
 
 // What a clerk is told of them where an entry's kind or count is wrong.
-pub const KINDS: [u8; 37] = *b" (kinds are 1, 2, 3, 4 in that order)";
+pub const KINDS: &str = " (kinds are 1, 2, 3, 4 in that order)";
 
-pub const COUNTS: [u8; 60] = *b" (1 control, 1 battery, 1 to 8 sets, 1 to 64 configurations)";
+pub const COUNTS: &str = " (1 control, 1 battery, 1 to 8 sets, 1 to 64 configurations)";
 
 // "kind (2 bytes), count (2), offset (4)"
 pub const ENTRY_SIZE: usize = 8;
