@@ -21,7 +21,7 @@ use Rattle.judging.specs.declared.state.JudgeStage.{JudgeStage}
 use Rattle.judging.specs.Holds.{Files}
 use Rattle.judging.proofs.AskLaws.{reading-room}
 use Rattle.check_machine.specs.declared.state.Stage.{Stage}
-use Rattle.check_machine.specs.declared.state.Machine.{Machine}
+use Rattle.check_machine.specs.Stages.{Machine}
 use Rattle.check_machine.specs.Stages.{asks, asks_of}
 use Rattle.check_machine.specs.Holds.{text, WordMeans, Holds, StepsFrom, Steps, Starting}
 use Rattle.check_machine.proofs.Program.{Opened, Stepped, open-owes, step-owes, opens-holds, at-stop}

@@ -26,7 +26,7 @@ use Rattle.judging.specs.Stages.{judge_asks}
 use Rattle.judging.specs.Holds.{Files, JudgeHoldsAt, judge_steps_at}
 use Rattle.check_machine.specs.declared.state.Stage.{Stage}
 use Rattle.check_machine.specs.declared.state.Held.{Held}
-use Rattle.check_machine.specs.declared.state.Machine.{Machine}
+use Rattle.check_machine.specs.Stages.{Machine}
 use Rattle.check_machine.specs.Answer.{answered}
 use Rattle.check_machine.specs.Stages.{asks, asks_of}
 use Rattle.check_machine.specs.Holds.{WordMeans, HoldsAt, Holds, steps_at, steps, StepsFrom, Steps, Starting, Opens}

@@ -8,7 +8,7 @@ use lib.ListN.{length, take, drop}
 use lib.Seq.{take-append_seam}
 use borrow.Author.Tests.{leb-false}
 use Rattle.rules.specs.declared.answers.Refusal.{Refusal}
-use Rattle.rules.specs.Answers.{Answer, judged, result_of}
+use Rattle.rules.specs.Answers.{judged, result_of}
 use Rattle.rules.specs.declared.station.Station.{Station}
 use Rattle.rows.specs.AnswerLine.{accepted_line, refused_line}
 use Rattle.rows.specs.Written.{TextPut}
@@ -22,7 +22,7 @@ use Rattle.exchange.specs.World.{World, left_in, again_of}
 use Rattle.judging.specs.Holds.{Files}
 use Rattle.check_machine.specs.declared.state.Stage.{Stage}
 use Rattle.check_machine.specs.declared.state.Held.{Held}
-use Rattle.check_machine.specs.declared.state.Machine.{Machine}
+use Rattle.check_machine.specs.Stages.{Machine}
 use Rattle.check_machine.specs.Stages.{stopping}
 use Rattle.check_machine.specs.Holds.{text, Nearer, Unanswered, most_after, Accepts, Refuses, RefusesLine, AnswersSamples, Answers}
 use Rattle.check_machine.proofs.StopLaws.{begins-none}

@@ -13,14 +13,14 @@ use Rattle.exchange.specs.declared.event.Event.{Event}
 use Rattle.exchange.specs.Existing.{gives_up}
 use Rattle.exchange.specs.World.{World, left_of, again_of, with_file, after, after_read}
 use Rattle.judging.specs.declared.state.JudgeStage.{JudgeStage}
-use Rattle.judging.specs.declared.state.Judging.{Judging}
+use Rattle.judging.specs.Stages.{Judging}
 use Rattle.judging.specs.Stages.{judge_asks, is_stopped}
 use Rattle.judging.specs.Holds.{Judged, JudgeHoldsAt, JudgesFrom}
 use Rattle.judging.proofs.StopLaws.{less-left}
 use Rattle.judging.proofs.FrameLaws.{read-frame, judging-writes-nothing, judging-keeps-arguments}
 use Rattle.check_machine.specs.declared.state.Stage.{Stage}
 use Rattle.check_machine.specs.declared.state.Held.{Held}
-use Rattle.check_machine.specs.declared.state.Machine.{Machine}
+use Rattle.check_machine.specs.Stages.{Machine}
 use Rattle.check_machine.specs.Stages.{asks, stopping, moved_by}
 use Rattle.check_machine.specs.Holds.{text, WordMeans, HoldsAt, steps_at, Well, Nearer, StepsFrom, Answers, Searches}
 use Rattle.check_machine.proofs.StopLaws.{begins-none, told-begins, after_write_lem}

@@ -17,7 +17,7 @@ use Rattle.judging.specs.Holds.{Files}
 use Rattle.judging.proofs.FrameLaws.{read-frame, rewind-frame, judging-writes-nothing}
 use Rattle.check_machine.specs.declared.state.Stage.{Stage}
 use Rattle.check_machine.specs.declared.state.Held.{Held}
-use Rattle.check_machine.specs.declared.state.Machine.{Machine}
+use Rattle.check_machine.specs.Stages.{Machine}
 use Rattle.check_machine.specs.Stages.{asks, stopping}
 use Rattle.check_machine.specs.Holds.{text, WordMeans, HoldsAt, steps_at, Well, Nearer, StepsFrom, Steps}
 

@@ -16,7 +16,7 @@ use Rattle.judging.specs.Holds.{Files, Judged, JudgeHolds, judge_steps, Unread}
 use Rattle.judging.specs.Holds as judging
 use Rattle.check_machine.specs.declared.state.Stage.{Stage}
 use Rattle.check_machine.specs.declared.state.Held.{Held}
-use Rattle.check_machine.specs.declared.state.Machine.{Machine}
+use Rattle.check_machine.specs.Stages.{Machine}
 use Rattle.check_machine.specs.Answer.{answered}
 use Rattle.check_machine.specs.Stages.{asks, asks_of}
 

@@ -8,7 +8,12 @@ use Rattle.judging.specs.declared.state.JudgeStage.{JudgeStage}
 use Rattle.judging.specs.Stages.{judge_asks}
 use Rattle.check_machine.specs.declared.state.Stage.{Stage}
 use Rattle.check_machine.specs.declared.state.Held.{Held}
-use Rattle.check_machine.specs.declared.state.Machine.{Machine}
+use Rattle.exchange.specs.declared.machine.Machine as machine
+use Rattle.exchange.specs.Machines.{standing}
+use Rattle.exchange.specs.Machines as machines
+
+abbrev pub Machine : Type 0
+Machine = machine.Machine Stage Held
 
 -- while both files are read, what that reading asks for
 abbrev pub asks : Stage → JudgeStage → Action
@@ -26,12 +31,8 @@ asks_of m = asks m.stage m.held.judging.stage
 
 -- without a complete answer
 abbrev pub stopping : Held → Why → Machine
-stopping h why = record { stage = Stage.Stop (Word.Nothing why); held = h }
+stopping h why = standing (Stage.Stop (Word.Nothing why)) h
 
 -- what was asked for was done, or failed
 abbrev pub moved_by : Event → Held → Stage → Stage → Machine
-moved_by Event.Done h done failed = record { stage = done; held = h }
-moved_by (Event.Count n) h done failed = stopping h Why.Broken
-moved_by (Event.Read n) h done failed = stopping h Why.Broken
-moved_by Event.End h done failed = stopping h Why.Broken
-moved_by Event.Failed h done failed = record { stage = failed; held = h }
+moved_by e h done failed = machines.moved_by (λ why. Stage.Stop (Word.Nothing why)) e h done failed

@@ -1,8 +1,8 @@
 // The answer, at the front of the output buffer: one line, whatever the files are.
 ghost use Rattle.check_machine.specs.Holds.{Accepts, Refuses, RefusesLine, AnswersSamples, Answers};
 
-use crate::line_search::no_line;
-use crate::state::{Held, Machine, Stage, stopped};
+use crate::line_search::Sought;
+use crate::state::{Held, Machine, Stage};
 use exchange::action::{Why, Word};
 use rows::run_lines::{put_accepted, put_refused};
 use rules::answers::Refusal;
@@ -13,26 +13,24 @@ use words::refusals::NumberAndPlace;
 fn accept(held: Held, out: &mut [u8]) -> Machine
     ensures { Accepts out.old result out.new }
 {
-    let put = put_accepted(out);
-    let Ok(size) = put else {
-        return stopped(held, Why::SmallBuffer);
-    };
-    Machine {
-        stage: Stage::Answer(size, Word::Complete),
-        held,
+    match put_accepted(out) {
+        Ok(size) => Machine {
+            stage: Stage::Answer(size, Word::Complete),
+            held,
+        },
+        Err(_) => Machine::stopped(held, Why::SmallBuffer),
     }
 }
 
 fn refuse(held: Held, refusal: Refusal, out: &mut [u8]) -> Machine
     ensures { Refuses refusal out.old result out.new }
 {
-    let put = put_refused(refusal, out);
-    let Ok(size) = put else {
-        return stopped(held, Why::SmallBuffer);
-    };
-    Machine {
-        stage: Stage::Answer(size, Word::Refused(refusal)),
-        held,
+    match put_refused(refusal, out) {
+        Ok(size) => Machine {
+            stage: Stage::Answer(size, Word::Refused(refusal)),
+            held,
+        },
+        Err(_) => Machine::stopped(held, Why::SmallBuffer),
     }
 }
 
@@ -43,16 +41,16 @@ fn refuse_line(held: Held, refusal: Refusal, line: u64, out: &mut [u8]) -> Machi
     if line == 0 {
         return refuse(held, refusal, out);
     }
-    let put = put_refused(refusal, out);
-    let Ok(size) = put else {
-        return stopped(held, Why::SmallBuffer);
+    let held = Held {
+        line: Sought::Before(line - 1),
+        ..held
     };
-    let sought = no_line(line - 1);
-    let mut h = held;
-    h.line = sought;
-    Machine {
-        stage: Stage::LineAnswer(size, refusal),
-        held: h,
+    match put_refused(refusal, out) {
+        Ok(size) => Machine {
+            stage: Stage::LineAnswer(size, refusal),
+            held,
+        },
+        Err(_) => Machine::stopped(held, Why::SmallBuffer),
     }
 }
 
@@ -60,15 +58,9 @@ fn refuse_line(held: Held, refusal: Refusal, line: u64, out: &mut [u8]) -> Machi
 fn answer_samples(held: Held, out: &mut [u8]) -> Machine
     ensures { AnswersSamples held out.old result out.new }
 {
-    let judging = held.judging;
-    let read = judging.held;
-    let checked = finish(read.check);
-    match checked {
+    match finish(held.judging.held.check) {
         Ok(_) => accept(held, out),
-        Err(refusal) => {
-            let told = NumberAndPlace::from(refusal);
-            refuse_line(held, refusal, told.place, out)
-        }
+        Err(refusal) => refuse_line(held, refusal, NumberAndPlace::from(refusal).place, out),
     }
 }
 
@@ -76,9 +68,7 @@ fn answer_samples(held: Held, out: &mut [u8]) -> Machine
 pub(crate) fn answer(held: Held, out: &mut [u8]) -> Machine
     ensures { Answers held out.old result out.new }
 {
-    let judging = held.judging;
-    let read = judging.held;
-    match station_of(read.file) {
+    match station_of(held.judging.held.file) {
         Ok(_) => answer_samples(held, out),
         Err(refusal) => refuse(held, refusal, out),
     }

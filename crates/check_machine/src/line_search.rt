@@ -1,126 +1,98 @@
 // A line of the sample file by its number, from a second pass, for the message about it.
-ghost use Rattle.std.specs.Prelude.{◌≤◌, length};
+ghost use Rattle.std.specs.Prelude.{◌≡◌, ◌≤◌, take};
 
 // One byte more than a line may have: who has that many needs no more to know that it is too long.
 const MOST_HELD: usize = 513;
 
-// The first bytes of the line, once the lines before it are passed.
+// The first bytes of a line.
 #[derive(Clone, Copy)]
-pub struct Sought {
-    pub text: [u8; 513],
-    pub len: usize,
+pub struct Line {
+    text: [u8; MOST_HELD],
+    len: usize,
+    ghost within: { len ≤ 513 },
+}
+
+// How far the search for a line has come.
+#[derive(Clone, Copy)]
+pub enum Sought {
     // line ends still to pass
-    pub left: u64,
-    pub found: bool,
+    Before(u64),
+    // the line's bytes so far
+    Begun(Line),
+    Found(Line),
 }
 
-// Where a chunk is to be read on once these line ends are passed, and those that it has not.
-#[derive(Clone, Copy)]
-struct Passed {
-    at: usize,
-    left: u64,
-}
-
-fn past_lines(lines: u64, chunk: &[u8]) -> Passed
-    ensures { result.at ≤ length chunk.now }
-{
-    let mut left = lines;
-    let mut at = 0;
-    while 0 < left {
-        let end = byte_search::find(chunk, at, chunk.len(), b'\n');
-        if chunk.len() <= end {
-            return Passed { at: end, left };
+// The chunk after so many line ends, or how many more there have to be.
+fn past_lines(lines: u64, chunk: &[u8]) -> Result<&[u8], u64> {
+    let mut rest = chunk;
+    for passed in 0..lines {
+        let end = byte_search::find(rest, 0, rest.len(), b'\n');
+        if end == rest.len() {
+            return Err(lines - passed);
         }
-        at = end + 1;
-        left -= 1;
+        rest = &rest[end + 1..];
     }
-    Passed { at, left }
+    Ok(rest)
 }
 
-// "one CR just before it is dropped", of a line that has its LF.
-fn without_cr(text: [u8; 513], len: usize) -> usize {
-    if len == 0 {
-        return 0;
-    }
-    if MOST_HELD < len {
-        return MOST_HELD;
-    }
-    if text[len - 1] == b'\r' {
-        return len - 1;
-    }
-    len
-}
-
-// The line goes on with the chunk's bytes from a place on, up to its LF.
-fn continued(before: Sought, chunk: &[u8], from: usize) -> Sought {
-    let mut text = before.text;
-    let mut len = before.len;
-    let mut i = from;
-    while i < chunk.len() {
-        if MOST_HELD <= len {
-            return Sought {
-                text,
-                len,
-                left: 0,
-                found: true,
-            };
-        }
-        let byte = chunk[i];
-        if byte == b'\n' {
-            return Sought {
-                text,
-                len: without_cr(text, len),
-                left: 0,
-                found: true,
-            };
-        }
-        text[len] = byte;
-        len += 1;
-        i += 1;
-    }
-    Sought {
-        text,
-        len,
-        left: 0,
-        found: false,
-    }
-}
-
-// The next bytes of the file.
-pub(crate) fn sought_in(before: Sought, chunk: &[u8]) -> Sought {
-    let passed = past_lines(before.left, chunk);
-    let left = passed.left;
-    if 0 < left {
-        let text = before.text;
-        return Sought {
-            text,
+impl Line {
+    fn new() -> Line {
+        Line {
+            text: [0; MOST_HELD],
             len: 0,
-            left,
-            found: false,
-        };
+        }
     }
-    continued(before, chunk, passed.at)
+
+    pub fn bytes(&self) -> &[u8]
+        ensures { result.now ≡ take self.now.len self.now.text }
+    {
+        &self.text[..self.len]
+    }
+
+    // "one CR just before it is dropped", of a line that has its LF.
+    fn without_cr(mut self) -> Line {
+        if self.bytes().ends_with(b"\r") {
+            self.len -= 1;
+        }
+        self
+    }
+
+    // The line goes on with the chunk's bytes, up to its LF.
+    fn continued(self, chunk: &[u8]) -> Sought {
+        let Line { mut text, mut len } = self;
+        for byte in chunk {
+            if len == MOST_HELD {
+                return Sought::Found(Line { text, len });
+            }
+            if *byte == b'\n' {
+                return Sought::Found(Line { text, len }.without_cr());
+            }
+            text[len] = *byte;
+            len += 1;
+        }
+        Sought::Begun(Line { text, len })
+    }
 }
 
-// The end of the file ends its last line too.
-pub(crate) fn at_end(before: Sought) -> Sought {
-    let text = before.text;
-    let len = before.len;
-    let left = before.left;
-    Sought {
-        text,
-        len,
-        left,
-        found: left == 0,
+impl Sought {
+    // With the next bytes of the file.
+    pub(crate) fn continued(self, chunk: &[u8]) -> Sought {
+        match self {
+            Sought::Before(lines) => match past_lines(lines, chunk) {
+                Ok(rest) => Line::new().continued(rest),
+                Err(left) => Sought::Before(left),
+            },
+            Sought::Begun(line) => line.continued(chunk),
+            Sought::Found(_) => self,
+        }
     }
-}
 
-// Nothing found yet, with so many line ends before the line.
-pub(crate) fn no_line(left: u64) -> Sought {
-    Sought {
-        text: [0; 513],
-        len: 0,
-        left,
-        found: false,
+    // The end of the file ends its last line too.
+    pub(crate) fn ended(self) -> Sought {
+        match self {
+            Sought::Before(0) => Sought::Found(Line::new()),
+            Sought::Begun(line) => Sought::Found(line),
+            Sought::Before(_) | Sought::Found(_) => self,
+        }
     }
 }

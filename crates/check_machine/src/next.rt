@@ -1,10 +1,10 @@
 // THE STEP: from what came of the last action to the next.
 ghost use Rattle.check_machine.specs.Holds.{Opens, Steps};
 
-use crate::line_search::no_line;
+use crate::line_search::Sought;
 use crate::lines::lines_read;
 use crate::opening::{counted, judged};
-use crate::state::{Held, Machine, Stage, moved, stopped};
+use crate::state::{Held, Machine, Stage};
 use exchange::action::{Why, Word};
 use exchange::event::Event;
 use judging::judge::judging;
@@ -18,8 +18,8 @@ pub fn begin() -> Machine
         stage: Stage::Counting,
         held: Held {
             judging: judging(false),
-            heading: no_line(0),
-            line: no_line(0),
+            heading: Sought::Before(0),
+            line: Sought::Before(0),
         },
     }
 }
@@ -29,26 +29,27 @@ pub fn next(machine: Machine, event: Event, buf: &[u8], out: &mut [u8]) -> Machi
     ensures { Steps machine event buf.now out.old result out.new }
 {
     let held = machine.held;
-    let stage = machine.stage;
-    if buf.len() == 0 {
-        return stopped(held, Why::SmallBuffer);
-    }
-    if out.len() < LEAST_ROW_BUFFER {
-        return stopped(held, Why::SmallBuffer);
+    if buf.is_empty() || out.len() < LEAST_ROW_BUFFER {
+        return Machine::stopped(held, Why::SmallBuffer);
     }
     let unwritten = Stage::Stop(Word::Nothing(Why::Unwritten));
-    match stage {
+    match machine.stage {
         Stage::Counting => counted(held, event),
         Stage::Judging => judged(held, event, buf, out),
-        Stage::Answer(_, word) => moved(held, event, Stage::Stop(word), unwritten),
-        Stage::LineAnswer(_, refusal) => moved(held, event, Stage::ToLines(refusal), unwritten),
-        Stage::ToLines(refusal) => moved(
+        Stage::Answer(_, word) => Machine::moved(held, event, Stage::Stop(word), unwritten),
+        Stage::LineAnswer(_, refusal) => Machine::moved(
+            held,
+            event,
+            Stage::ToLines(refusal),
+            unwritten,
+        ),
+        Stage::ToLines(refusal) => Machine::moved(
             held,
             event,
             Stage::Lines(refusal),
             Stage::Stop(Word::Refused(refusal)),
         ),
         Stage::Lines(refusal) => lines_read(held, event, refusal, buf),
-        Stage::Stop(_) => stopped(held, Why::Broken),
+        Stage::Stop(_) => Machine::stopped(held, Why::Broken),
     }
 }

@@ -1,10 +1,12 @@
 // Where the program stands between two actions.
 ghost use Rattle.std.specs.Prelude.{◌≡◌};
-ghost use Rattle.check_machine.specs.Stages.{asks, stopping, moved_by};
+ghost use Rattle.exchange.specs.declared.action.Word.{Word};
+ghost use Rattle.check_machine.specs.declared.state.Stage.{Stage};
+ghost use Rattle.check_machine.specs.Stages.{asks};
 
 use crate::line_search::Sought;
 use exchange::action::{Action, BUFFER_END, Why, Word};
-use exchange::event::Event;
+use exchange::machine;
 use judging::state::{Judging, SAMPLES, judge_asks};
 use rules::answers::Refusal;
 
@@ -34,53 +36,26 @@ pub struct Held {
     pub line: Sought,
 }
 
-#[derive(Clone, Copy)]
-pub struct Machine {
-    pub stage: Stage,
-    pub held: Held,
+pub type Machine = machine::Machine<Stage, Held>;
+
+impl machine::Stage for Stage {
+    ghost stop_at = { λ why. Stage.Stop (Word.Nothing why) };
+
+    fn stop(why: Why) -> Stage {
+        Stage::Stop(Word::Nothing(why))
+    }
 }
 
 // What is to be done next.
 pub fn asked(machine: Machine) -> Action
     ensures { result ≡ asks machine.stage machine.held.judging.stage }
 {
-    let held = machine.held;
-    let judging = held.judging;
-    let reading = judging.stage;
-    let stage = machine.stage;
-    match stage {
+    match machine.stage {
         Stage::Counting => Action::Count,
-        Stage::Judging => judge_asks(reading),
-        Stage::Answer(size, _) => Action::Write(size),
-        Stage::LineAnswer(size, _) => Action::Write(size),
+        Stage::Judging => judge_asks(machine.held.judging.stage),
+        Stage::Answer(size, _) | Stage::LineAnswer(size, _) => Action::Write(size),
         Stage::ToLines(_) => Action::Rewind(SAMPLES),
         Stage::Lines(_) => Action::Read(SAMPLES, 0, BUFFER_END),
         Stage::Stop(word) => Action::Stop(word),
-    }
-}
-
-// Without a complete answer.
-pub(crate) fn stopped(held: Held, why: Why) -> Machine
-    ensures { result ≡ stopping held why }
-{
-    Machine {
-        stage: Stage::Stop(Word::Nothing(why)),
-        held,
-    }
-}
-
-// What comes next where what was asked for was done, and where it failed.
-pub(crate) fn moved(held: Held, event: Event, done: Stage, failed: Stage) -> Machine
-    ensures { result ≡ moved_by event held done failed }
-{
-    match event {
-        Event::Done => Machine { stage: done, held },
-        Event::Count(_) => stopped(held, Why::Broken),
-        Event::Read(_) => stopped(held, Why::Broken),
-        Event::End => stopped(held, Why::Broken),
-        Event::Failed => Machine {
-            stage: failed,
-            held,
-        },
     }
 }

@@ -2,8 +2,8 @@
 use Rattle.check_machine.proofs.StepLaws.{line-found, line-awaited}
 use Rattle.check_machine.proofs.lines.lines_in.Goals as goal
 
-pub returns-then-line : goal.returns-then-line
-returns-then-line c = line-found c.args.refusal _
+pub returns-in-Found : goal.returns-in-Found
+returns-in-Found c = line-found c.args.refusal _
 
 pub returns : goal.returns
 returns c = line-awaited c.args.refusal _

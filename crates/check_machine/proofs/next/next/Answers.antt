@@ -2,17 +2,21 @@
 use Rattle.check_machine.proofs.StopLaws.{stop-steps, small-steps, large-steps, at_stage}
 use Rattle.check_machine.proofs.StepLaws.{answer-steps, line-answer-steps, to-lines-steps}
 use Rattle.check_machine.specs.Holds.{StepsFrom}
-use Rattle.check_machine.specs.declared.state.Machine.{Machine}
+use Rattle.check_machine.specs.Stages.{Machine}
 use Rattle.check_machine.specs.declared.state.Stage.{Stage}
-use mathlib.Core.Path.{refl, sym, subst}
-use native.Mathlib.Omega.{arith}
+use Rattle.std.proofs.Common.{◌≡◌, ◌∙◌, ◌<◌, ◌≤◌, ◌==◌, true, length, rules, refl, sym, subst, arith}
 use Rattle.check_machine.proofs.next.next.Goals as goal
+use Rattle.check_machine.proofs.next.next.Goals.{then-is_empty-via-then-is_empty, then-is_empty-via-else-is_empty+then-out-lt-LEAST_ROW_BUFFER}
 
-pub returns-then-buf-eq0 : goal.returns-then-buf-eq0
-returns-then-buf-eq0 c = small-steps c.args.machine c.args.event c.args.buf.now c.args.out.now _ _ (λ some roomy. omega (arith, some, roomy)) c.stopped.ensures
-
-pub returns-then-out-lt-LEAST_ROW_BUFFER : goal.returns-then-out-lt-LEAST_ROW_BUFFER
-returns-then-out-lt-LEAST_ROW_BUFFER c = small-steps c.args.machine c.args.event c.args.buf.now c.args.out.now _ _ (λ some roomy. omega (arith, some, roomy)) c.stopped-then-out-lt-LEAST_ROW_BUFFER.ensures
+pub returns-then-is_empty : goal.returns-then-is_empty
+returns-then-is_empty c =
+    let small = λ (none : 0 < length c.args.buf.now → 256 ≤ length c.args.out.now → ⊥). small-steps c.args.machine c.args.event c.args.buf.now c.args.out.now _ _ none c.stopped.ensures in
+    elim c.then-is_empty.branch [
+      | then-is_empty-via-then-is_empty w ↦
+          small
+          (λ some roomy. let empty : ((length c.args.buf.now) == 0) ≡ true = sym c.is_empty.ensures ∙ w.if-is_empty.true in absurd (search (rules, empty, some)))
+      | then-is_empty-via-else-is_empty+then-out-lt-LEAST_ROW_BUFFER w ↦ small (λ some roomy. let less = w.if-out-lt-LEAST_ROW_BUFFER.true in omega (arith, less, roomy))
+    ]
 
 pub returns-in-Counting : goal.returns-in-Counting
 returns-in-Counting c = large-steps c.args.machine c.args.event c.args.buf.now c.args.out.now _ _ refl (at_stage c.args.machine.stage (Stage.Counting) c.args.machine.held c.args.event c.args.buf.now c.args.out.now _ _ c.in-Counting.is (c.counted.ensures c.args.buf.now c.args.out.now))

@@ -2,23 +2,30 @@
 use Rattle.check_machine.proofs.StopLaws.{stop-steps, wrong-count, at-event}
 use Rattle.check_machine.proofs.StepLaws.{count-right}
 use Rattle.check_machine.specs.declared.state.Stage.{Stage}
-use mathlib.Core.Path.{refl}
+use mathlib.Core.Path.{◌≡◌, refl, sym, ◌∙◌}
+use mathlib.Core.Bool.{false}
+use mathlib.Core.Logic.{inl, inr}
+use Rattle.exchange.proofs.Expected.{is_expected}
+use Rattle.exchange.specs.declared.action.Action.{Action}
+use Rattle.exchange.specs.declared.event.Event.{Event}
 use Rattle.check_machine.proofs.opening.counted.Goals as goal
 
-pub returns-then-count-eq-ARGUMENTS : goal.returns-then-count-eq-ARGUMENTS
-returns-then-count-eq-ARGUMENTS c = λ buf out. at-event Stage.Counting c.args.held c.args.event _ buf out out _ c.in-Count.is (count-right c.args.held _ buf out c.if-count-eq-ARGUMENTS.true)
+pub returns-in-Count-eq3 : goal.returns-in-Count-eq3
+returns-in-Count-eq3 c =
+    let count = c.in-Count-eq3 in
+    λ buf out. at-event Stage.Counting c.args.held c.args.event _ buf out out _ count.is (count-right c.args.held _ buf out (sym count.field-0-is ∙ count.field-0-test))
 
-pub returns-else-count-eq-ARGUMENTS : goal.returns-else-count-eq-ARGUMENTS
-returns-else-count-eq-ARGUMENTS c = λ buf out. wrong-count c.args.held c.args.event _ buf out _ _ c.stopped.ensures c.in-Count.is c.if-count-eq-ARGUMENTS.false
+pub returns-in-Count : goal.returns-in-Count
+returns-in-Count c =
+    let count = c.in-Count in
+    λ buf out. wrong-count c.args.held c.args.event _ buf out _ _ c.stopped.ensures count.is (λ right. count.field-0-test.1 (count.field-0-is ∙ right))
 
 pub returns-in-Done : goal.returns-in-Done
-returns-in-Done c = λ buf out. stop-steps Stage.Counting c.args.held c.args.held c.args.event _ buf out out _ _ c.stopped-in-Done.ensures c.in-Done.is refl
-
-pub returns-in-Read : goal.returns-in-Read
-returns-in-Read c = λ buf out. stop-steps Stage.Counting c.args.held c.args.held c.args.event _ buf out out _ _ c.stopped-in-Read.ensures c.in-Read.is refl
-
-pub returns-in-End : goal.returns-in-End
-returns-in-End c = λ buf out. stop-steps Stage.Counting c.args.held c.args.held c.args.event _ buf out out _ _ c.stopped-in-End.ensures c.in-End.is refl
-
-pub returns-in-Failed : goal.returns-in-Failed
-returns-in-Failed c = λ buf out. stop-steps Stage.Counting c.args.held c.args.held c.args.event _ buf out out _ _ c.stopped-in-Failed.ensures c.in-Failed.is refl
+returns-in-Done c = λ buf out.
+    let stop = λ (e : Event) (is : c.args.event ≡ e) (un : is_expected Action.Count e ≡ false). stop-steps Stage.Counting c.args.held c.args.held c.args.event e buf out out _ _ c.stopped-in-Done.ensures is un in
+    elim c.in-Done.is [
+      | inl is ↦ stop Event.Done is refl
+      | inr (inl is) ↦ stop (Event.Read is.0) is.1 refl
+      | inr (inr (inl is)) ↦ stop Event.End is refl
+      | inr (inr (inr is)) ↦ stop Event.Failed is refl
+    ]

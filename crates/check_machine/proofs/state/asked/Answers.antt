@@ -1,5 +1,5 @@
 -- `asked` meets its contract. Assumes nothing.
-
+use mathlib.Core.Logic.{inl, inr}
 use Rattle.check_machine.proofs.state.asked.Goals as goal
 
 pub returns-in-Counting : goal.returns-in-Counting
@@ -9,10 +9,7 @@ pub returns-in-Judging : goal.returns-in-Judging
 returns-in-Judging c = rw c.in-Judging.is c.judge_asks.ensures
 
 pub returns-in-Answer : goal.returns-in-Answer
-returns-in-Answer c = rw c.in-Answer.is
-
-pub returns-in-LineAnswer : goal.returns-in-LineAnswer
-returns-in-LineAnswer c = rw c.in-LineAnswer.is
+returns-in-Answer c = elim c.in-Answer.is [ inl is ↦ rw is.1 | inr is ↦ rw is.1 ]
 
 pub returns-in-ToLines : goal.returns-in-ToLines
 returns-in-ToLines c = rw c.in-ToLines.is
