@@ -13,11 +13,5 @@ fn most_decided(awaited: bool) -> u32
 pub(crate) fn decided_possible(delay: usize, decided: [u32; 60]) -> bool
     ensures { result ≡ decided_possible delay decided }
 {
-    let mut ok = true;
-    let mut i: usize = 0;
-    while i < 60 {
-        ok = ok & (decided[i] <= most_decided(i < delay));
-        i += 1;
-    }
-    ok
+    (0..60).all(|i| decided[i] <= most_decided(i < delay))
 }

@@ -17,17 +17,11 @@ pub fn possible(st: Station, run: Run) -> bool
     if MOST_SECONDS < done {
         return false;
     }
-    let battery = st.battery;
-    let control = st.control;
-    let sets = st.sets;
-    let states = run.sets;
-    let totals = run.totals;
-    let decided = run.decided;
     let most = (MOST_POWER as u64) * (done as u64);
-    ((battery.least <= run.store) & (run.store <= battery.most))
+    ((st.battery.least <= run.store) & (run.store <= st.battery.most))
         & (run.called <= st.configcount)
         & (run.since <= done)
-        & states_possible(st.setcount, sets, states, done)
-        & totals_possible(totals, most)
-        & decided_possible(control.delay as usize, decided)
+        & states_possible(st.setcount, st.sets, run.sets, done)
+        & totals_possible(run.totals, most)
+        & decided_possible(st.control.delay as usize, run.decided)
 }

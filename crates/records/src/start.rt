@@ -8,9 +8,10 @@ ghost use Rattle.rules.specs.RunRecord.{start};
 ghost use Rattle.records.specs.NoRun.{at_start, no_run};
 
 use rules::answers::Refusal;
-use rules::run::{Mode, Run, SetState, Totals};
+use rules::run::{ByFlow, Mode, Run, SetState};
 use rules::station::Station;
 use station_record::record::some_file_gives;
+use std::array::from_fn;
 
 // The verdict on a station record, and the record that its run starts with; where it is refused, the record of zeros.
 #[derive(Clone, Copy)]
@@ -48,20 +49,13 @@ fn mode_at_start(online: u32, place: usize) -> Mode
 fn states_at_start(online: u32) -> [SetState; 8]
     ensures { result ≡ tab 8 (λ i. fresh (if has online i then On else Off)) }
 {
-    let off = fresh(Mode::Off);
-    let mut states = [off; 8];
-    let mut i: usize = 0;
-    while i < 8 {
-        states[i] = fresh(mode_at_start(online, i));
-        i += 1;
-    }
-    states
+    from_fn(|place| fresh(mode_at_start(online, place)))
 }
 
 fn at_start(store: u64, sets: [SetState; 8]) -> Run
     ensures { result ≡ at_start store sets }
 {
-    let totals = Totals {
+    let totals = ByFlow {
         offered: 0,
         load: 0,
         shed: 0,
@@ -87,9 +81,7 @@ fn at_start(store: u64, sets: [SetState; 8]) -> Run
 fn no_run() -> Run
     ensures { result ≡ no_run }
 {
-    let off = fresh(Mode::Off);
-    let sets = [off; 8];
-    at_start(0, sets)
+    at_start(0, [fresh(Mode::Off); 8])
 }
 
 pub fn start(st: Station) -> Started
@@ -97,18 +89,13 @@ pub fn start(st: Station) -> Started
     ensures run_value { result.run ≡ value_or no_run (start st) }
 {
     if !some_file_gives(st) {
-        let none = no_run();
         return Started {
             verdict: Err(Refusal::StationRecord),
-            run: none,
+            run: no_run(),
         };
     }
-    let battery = st.battery;
-    let control = st.control;
-    let sets = states_at_start(control.online);
-    let run = at_start(battery.start, sets);
     Started {
         verdict: Ok(()),
-        run,
+        run: at_start(st.battery.start, states_at_start(st.control.online)),
     }
 }

@@ -37,8 +37,7 @@ fn counts_possible(genset: GenSet, state: SetState, done: u32) -> bool
 fn state_unused(state: SetState) -> bool
     ensures { result ≡ state_unused state }
 {
-    let mode = state.mode;
-    is_off(mode)
+    is_off(state.mode)
         & (state.run == 0)
         & (state.clock == 0)
         & (state.starts == 0)
@@ -54,8 +53,7 @@ fn state_possible(exists: bool, genset: GenSet, state: SetState, done: u32) -> b
     if !exists {
         return state_unused(state);
     }
-    let mode = state.mode;
-    mode_possible(genset, mode) & counts_possible(genset, state, done)
+    mode_possible(genset, state.mode) & counts_possible(genset, state, done)
 }
 
 pub(crate) fn states_possible(
@@ -67,13 +65,5 @@ pub(crate) fn states_possible(
     requires { done ≤ most_seconds }
     ensures { result ≡ states_possible setcount sets states done }
 {
-    let mut ok = true;
-    let mut i: usize = 0;
-    while i < 8 {
-        let genset = sets[i];
-        let state = states[i];
-        ok = ok & state_possible(i < setcount, genset, state, done);
-        i += 1;
-    }
-    ok
+    (0..8).all(|i| state_possible(i < setcount, sets[i], states[i], done))
 }

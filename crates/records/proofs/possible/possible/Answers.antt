@@ -7,12 +7,6 @@ pub returns-then-done-gt-MOST_SECONDS : goal.returns-then-done-gt-MOST_SECONDS
 unfolding possible
 returns-then-done-gt-MOST_SECONDS c = rw (lt-leb _ _ c.if-done-gt-MOST_SECONDS.true)
 
-pub states_possible-requires : goal.states_possible-requires
-states_possible-requires c = c.if-done-gt-MOST_SECONDS.false
-
 pub returns : goal.returns
 unfolding possible
-returns c =
-    let states = c.before.before.before in
-    let first = states.before.before.before.before.before.before.before.before.before.before.before.before.before.before in
-    simp (le-leb _ _ first.if-done-gt-MOST_SECONDS.false, states.states_possible.ensures, c.totals_possible.ensures, c.decided_possible.ensures)
+returns c = simp (le-leb _ _ c.if-done-gt-MOST_SECONDS.false, c.states_possible.ensures, c.totals_possible.ensures, c.decided_possible.ensures)

@@ -4,4 +4,4 @@ use Rattle.records.proofs.start.no_run.Goals as goal
 
 pub returns : goal.returns
 unfolding no_run
-returns c = rw (c.at_start.ensures, c.fresh-off.ensures)
+returns c = rw (c.at_start.ensures, c.fresh.ensures)

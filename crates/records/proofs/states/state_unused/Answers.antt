@@ -7,6 +7,5 @@ use Rattle.records.proofs.states.state_unused.Goals as goal
 
 pub returns : goal.returns
 returns c =
-    let known = c.before.before.before.before.before.before in
-    let s = known.args.state in
-    rw known.is_off.ensures (every-from (λ n. eqb n 0) (is_off s.mode) (s.run ∷ s.clock ∷ s.starts ∷ s.stops ∷ s.energy ∷ s.fuel ∷ []))
+    let s = c.args.state in
+    rw c.is_off.ensures (every-from (λ n. eqb n 0) (is_off s.mode) (s.run ∷ s.clock ∷ s.starts ∷ s.stops ∷ s.energy ∷ s.fuel ∷ []))
