@@ -7,6 +7,7 @@ ghost use Rattle.set_moves.specs.InType.{switched_in, commanded_all_in};
 use modes::mode::is_on;
 use rules::run::{Mode, SetState};
 use rules::station::GenSet;
+use std::array::from_fn;
 use words::masks::next_set;
 
 // "go Warming, one start"
@@ -15,12 +16,8 @@ fn start_set(genset: GenSet, state: SetState) -> SetState
 {
     SetState {
         mode: Mode::Warming(genset.warmup),
-        run: state.run,
-        clock: state.clock,
-        starts: std::num::wrapping_add_u32(state.starts, 1),
-        stops: state.stops,
-        energy: state.energy,
-        fuel: state.fuel,
+        starts: state.starts.wrapping_add(1),
+        ..state
     }
 }
 
@@ -30,12 +27,8 @@ fn stop_set(state: SetState, mode: Mode) -> SetState
 {
     SetState {
         mode,
-        run: state.run,
-        clock: state.clock,
-        starts: state.starts,
-        stops: std::num::wrapping_add_u32(state.stops, 1),
-        energy: state.energy,
-        fuel: state.fuel,
+        stops: state.stops.wrapping_add(1),
+        ..state
     }
 }
 
@@ -43,8 +36,7 @@ fn stop_set(state: SetState, mode: Mode) -> SetState
 fn command(genset: GenSet, state: SetState, called: bool, release: bool) -> SetState
     ensures { result ≡ switched_in (command genset state called release) }
 {
-    let mode = state.mode;
-    match mode {
+    match state.mode {
         Mode::Off => {
             if called {
                 start_set(genset, state)
@@ -93,9 +85,7 @@ pub fn every_on(states: [SetState; 8], mask: u32) -> bool
     let mut place = next_set(mask, 0);
     while place < 8 {
         let at = place as usize;
-        let state = states[at];
-        let mode = state.mode;
-        if !is_on(mode) {
+        if !is_on(states[at].mode) {
             return false;
         }
         place = next_set(mask, place + 1);
@@ -108,13 +98,5 @@ pub fn command_all(sets: [GenSet; 8], states: [SetState; 8], mask: u32) -> [SetS
     ensures { result ≡ commanded_all_in sets states mask }
 {
     let release = every_on(states, mask);
-    let mut out = states;
-    let mut i: usize = 0;
-    while i < 8 {
-        let genset = sets[i];
-        let state = out[i];
-        out[i] = command(genset, state, has_set(mask, i), release);
-        i += 1;
-    }
-    out
+    from_fn(|i| command(sets[i], states[i], has_set(mask, i), release))
 }

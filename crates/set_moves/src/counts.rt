@@ -21,15 +21,12 @@ fn burned(genset: GenSet, power: u32) -> u64
 fn count(genset: GenSet, state: SetState, power: u32) -> SetState
     ensures { result ≡ counted_in genset state power }
 {
-    let mode = state.mode;
     SetState {
-        mode,
-        run: std::num::wrapping_add_u32(state.run, 1),
-        clock: std::num::wrapping_add_u32(state.clock, 1),
-        starts: state.starts,
-        stops: state.stops,
-        energy: std::num::wrapping_add_u64(state.energy, power as u64),
-        fuel: std::num::wrapping_add_u64(state.fuel, burned(genset, power)),
+        run: state.run.wrapping_add(1),
+        clock: state.clock.wrapping_add(1),
+        energy: state.energy.wrapping_add(power as u64),
+        fuel: state.fuel.wrapping_add(burned(genset, power)),
+        ..state
     }
 }
 
@@ -42,9 +39,7 @@ pub fn count_all(sets: [GenSet; 8], states: [SetState; 8], mask: u32, diesel: u3
     let mut place = next_set(mask, 0);
     while place < 8 {
         let at = place as usize;
-        let genset = sets[at];
-        let state = out[at];
-        out[at] = count(genset, state, watts[at]);
+        out[at] = count(sets[at], out[at], watts[at]);
         place = next_set(mask, place + 1);
     }
     out
