@@ -1,39 +1,29 @@
 // Refusals 11, 15, 16, 17, 20 and 21 for a clerk: what is wrong with a line as a whole, or with two of its cells.
 use crate::columns::{column_of, part_at, parts_of};
-use plain_words::numbers::{count_of, number, number_from_one};
+use plain_words::numbers::{count_of, number_from_one};
 use plain_words::shown::{show, show_bare};
 use plain_words::texts::say;
 use std::io::Write;
 
-// A column after the time's.
+// A column after the time's, by its place among the names `t`, LoadP, PvAvailP, ShedLoadP.
 #[derive(Clone, Copy)]
 enum Column {
-    Load,
-    Solar,
-    Sheddable,
+    Load = 1,
+    Solar = 2,
+    Sheddable = 3,
 }
 
-// Its place among the names `t`, LoadP, PvAvailP, ShedLoadP.
-fn name_in(column: Column) -> u8 {
+fn heading_of(column: Column) -> &'static str {
     match column {
-        Column::Load => 1,
-        Column::Solar => 2,
-        Column::Sheddable => 3,
-    }
-}
-
-fn say_missing_name<W: Write>(err: &mut W, column: Column) {
-    match column {
-        Column::Load => say(err, b": LoadP is missing.\n"),
-        Column::Solar => say(err, b": PvAvailP is missing.\n"),
-        Column::Sheddable => say(err, b": ShedLoadP is missing.\n"),
+        Column::Load => "LoadP",
+        Column::Solar => "PvAvailP",
+        Column::Sheddable => "ShedLoadP",
     }
 }
 
 // `check: sample file, line 3` starts each message.
 pub(crate) fn say_line<W: Write>(err: &mut W, line: u64) {
-    say(err, b"check: sample file, line ");
-    number(err, line);
+    let _ = write!(err, "check: sample file, line {line}");
 }
 
 // A cell with its number from 1, its text and its heading.
@@ -56,26 +46,27 @@ pub fn say_long<W: Write>(err: &mut W, line: u64, text: &[u8]) {
 }
 
 fn say_if_missing<W: Write>(err: &mut W, line: u64, headings: &[u8], column: Column) {
-    if column_of(headings, name_in(column)) < parts_of(headings) {
+    if column_of(headings, column as u8).is_some() {
         return;
     }
     say_line(err, line);
     say(err, b", headings ");
     show(err, headings);
-    say_missing_name(err, column);
+    let heading = heading_of(column);
+    let _ = write!(err, ": {heading} is missing.\n");
 }
 
 // 15
 pub fn say_missing<W: Write>(err: &mut W, line: u64, headings: &[u8]) {
-    say_if_missing(err, line, headings, Column::Load);
-    say_if_missing(err, line, headings, Column::Solar);
-    say_if_missing(err, line, headings, Column::Sheddable);
+    for column in [Column::Load, Column::Solar, Column::Sheddable] {
+        say_if_missing(err, line, headings, column);
+    }
 }
 
 // 16
 pub fn say_first_heading<W: Write>(err: &mut W, line: u64, headings: &[u8]) {
     say_line(err, line);
-    if headings.len() == 0 {
+    if headings.is_empty() {
         say(err, b" is empty, so heading 1 '' is not t.\n");
         return;
     }
@@ -96,15 +87,12 @@ pub fn say_count<W: Write>(err: &mut W, line: u64, text: &[u8]) {
 
 // 20
 pub fn say_shed<W: Write>(err: &mut W, line: u64, headings: &[u8], text: &[u8]) {
-    let columns = parts_of(headings);
-    let sheddable = column_of(headings, name_in(Column::Sheddable));
-    let load = column_of(headings, name_in(Column::Load));
-    if columns <= sheddable {
+    let Some(sheddable) = column_of(headings, Column::Sheddable as u8) else {
         return;
-    }
-    if columns <= load {
+    };
+    let Some(load) = column_of(headings, Column::Load as u8) else {
         return;
-    }
+    };
     say_line(err, line);
     say_cell(err, headings, text, sheddable);
     say(err, b" is above the load");

@@ -1,16 +1,19 @@
 // What would be right, whatever the line has.
-use plain_words::numbers::number;
 use plain_words::texts::say;
 use rules::limits::{
     MOST_DECIMALS, MOST_KW_DIGITS, MOST_LINE, MOST_POWER, MOST_TIME, MOST_TIME_DIGITS,
 };
 use std::io::Write;
 
+// The limit of a power in kW.
+pub(crate) const MOST_KW: u32 = MOST_POWER / 1000;
+
 // 11
 pub fn say_length_rule<W: Write>(err: &mut W) {
-    say(err, b"check: right is: a line of at most ");
-    number(err, MOST_LINE as u64);
-    say(err, b" bytes without its line feed (LF).\n");
+    let _ = write!(
+        err,
+        "check: right is: a line of at most {MOST_LINE} bytes without its line feed (LF).\n",
+    );
 }
 
 // 12 to 16
@@ -33,26 +36,16 @@ pub fn say_count_rule<W: Write>(err: &mut W) {
     );
 }
 
-fn say_time_rule<W: Write>(err: &mut W) {
-    say(err, b"check: right is: a time is 1 to ");
-    number(err, MOST_TIME_DIGITS as u64);
-    say(err, b" digits, in seconds, at most ");
-    number(err, MOST_TIME as u64);
-}
-
-fn say_power_rule<W: Write>(err: &mut W) {
-    say(err, b"; a power is 1 to ");
-    number(err, MOST_KW_DIGITS as u64);
-    say(err, b" digits, and if need be a point and 1 to ");
-    number(err, MOST_DECIMALS as u64);
-    say(err, b" digits, in kW, at most ");
-    number(err, MOST_POWER as u64 / 1000);
-}
-
 // 18, 19
 pub fn say_cell_rule<W: Write>(err: &mut W) {
-    say_time_rule(err);
-    say_power_rule(err);
+    let _ = write!(
+        err,
+        "check: right is: a time is 1 to {MOST_TIME_DIGITS} digits, in seconds, at most {MOST_TIME}",
+    );
+    let _ = write!(
+        err,
+        "; a power is 1 to {MOST_KW_DIGITS} digits, and if need be a point and 1 to {MOST_DECIMALS} digits, in kW, at most {MOST_KW}",
+    );
     say(err, b"; no cell may be blank.\n");
 }
 

@@ -1,10 +1,11 @@
 // Refusals 12, 13, 14, 18 and 19 for a clerk: the first heading or cell of a line that has the fault.
 use crate::columns::{column_of, name_at, part_at, parts_of};
 use crate::line_faults::{say_cell, say_line};
-use plain_words::numbers::{number, number_from_one};
+use crate::line_rules::MOST_KW;
+use plain_words::numbers::number_from_one;
 use plain_words::shown::show;
 use plain_words::texts::say;
-use rules::limits::{MOST_POWER, MOST_TIME};
+use rules::limits::MOST_TIME;
 use sheet::numbers::{CellFault, cell_under};
 use sheet_headings::headings::name_of;
 use std::io::Write;
@@ -22,43 +23,32 @@ pub enum PartFault {
 // What `name_of` answers for a heading that is none of the names.
 const NO_NAME: u8 = 4;
 
-fn is_malformed(value: Result<u32, CellFault>) -> bool {
-    match value {
-        Ok(_) | Err(CellFault::OverLimit) => false,
-        Err(CellFault::Malformed) => true,
-    }
-}
-
-fn is_over_limit(value: Result<u32, CellFault>) -> bool {
-    match value {
-        Ok(_) | Err(CellFault::Malformed) => false,
-        Err(CellFault::OverLimit) => true,
-    }
+// The cell under the heading at its place.
+fn value_at(headings: &[u8], place: usize, part: &[u8]) -> Result<u32, CellFault> {
+    cell_under(name_at(headings, place), part)
 }
 
 // Whether the heading or cell at a place has the fault.
 fn has_fault(fault: PartFault, headings: &[u8], text: &[u8], place: usize) -> bool {
     let part = part_at(text, place);
     match fault {
-        PartFault::Blank => part.len() == 0,
+        PartFault::Blank => part.is_empty(),
         PartFault::Unknown => name_of(part) == NO_NAME,
-        PartFault::Twice => column_of(text, name_of(part)) < place,
-        PartFault::Malformed => is_malformed(cell_under(name_at(headings, place), part)),
-        PartFault::OverLimit => is_over_limit(cell_under(name_at(headings, place), part)),
+        PartFault::Twice => column_of(text, name_of(part)).is_some_and(|first| first < place),
+        PartFault::Malformed => matches!(
+            value_at(headings, place, part),
+            Err(CellFault::Malformed)
+        ),
+        PartFault::OverLimit => matches!(
+            value_at(headings, place, part),
+            Err(CellFault::OverLimit)
+        ),
     }
 }
 
-// The first heading or cell that has the fault; the number of them where none has it.
-fn first_fault(fault: PartFault, headings: &[u8], text: &[u8]) -> usize {
-    let parts = parts_of(text);
-    let mut i = 0;
-    while i < parts {
-        if has_fault(fault, headings, text, i) {
-            return i;
-        }
-        i += 1;
-    }
-    parts
+// The first heading or cell that has the fault.
+fn first_fault(fault: PartFault, headings: &[u8], text: &[u8]) -> Option<usize> {
+    (0..parts_of(text)).find(|place| has_fault(fault, headings, text, *place))
 }
 
 fn say_heading<W: Write>(err: &mut W, text: &[u8], place: usize) {
@@ -85,14 +75,11 @@ fn say_malformed<W: Write>(err: &mut W, size: usize) {
 
 // The time is the first cell of a row, and the others are powers.
 fn say_limit<W: Write>(err: &mut W, place: usize) {
-    say(err, b" is over its limit of ");
-    if place == 0 {
-        number(err, MOST_TIME as u64);
-        say(err, b" s.\n");
-        return;
-    }
-    number(err, MOST_POWER as u64 / 1000);
-    say(err, b" kW.\n");
+    let _ = if place == 0 {
+        write!(err, " is over its limit of {MOST_TIME} s.\n")
+    } else {
+        write!(err, " is over its limit of {MOST_KW} kW.\n")
+    };
 }
 
 fn say_what<W: Write>(err: &mut W, fault: PartFault, size: usize, place: usize) {
@@ -113,10 +100,9 @@ pub fn say_part_fault<W: Write>(
     headings: &[u8],
     text: &[u8],
 ) {
-    let place = first_fault(fault, headings, text);
-    if parts_of(text) <= place {
+    let Some(place) = first_fault(fault, headings, text) else {
         return;
-    }
+    };
     say_line(err, line);
     say_part(err, fault, headings, text, place);
     say_what(err, fault, part_at(text, place).len(), place);
