@@ -11,7 +11,7 @@ import collections, glob, os, re, sys
 ROOT = os.path.dirname(os.path.dirname(os.path.abspath(__file__)))
 NAME = r"[^\W\d][\w'′₀-₉-]*"
 # Words of the languages, of the toolchain's library and of the formats, which are no names of ours.
-OTHER_WORDS = set('requires ensures must-fail Pre Float min max count_ones t P1 P2 P12'.split())
+OTHER_WORDS = set('requires ensures must-fail Pre Float min max count_ones t P1 P2 P12 Ok Err Some None'.split())
 
 Sources = collections.namedtuple('Sources', 'logic code edits others root')
 
@@ -72,12 +72,14 @@ def anywhere(found, name):
 
 
 def of_path(found, parts):
-    """crate::module::name, crate::module or crate::name"""
+    """crate::module::name, crate::module, crate::name or crate::module::Type::method"""
     crate, *rest = parts
     if not rest:
         return crate in OTHER_WORDS
     if not is_crate(found, crate):
         return False
+    if len(rest) == 3:
+        return all(name in found.code[crate][rest[0]] for name in rest[1:])
     module, name = (rest if len(rest) == 2 else ('lib', rest[0]))
     if len(rest) == 1 and rest[0] in found.code[crate]:
         return True
@@ -132,13 +134,14 @@ def faults_of(found, page):
 def must_tell():
     """each kind of name, right and wrong"""
     logic = {'rules': {'Flows': {'floor_load'}}, 'words': {'Laws': {'the-law'}}}
-    code = {'rules': {}, 'words': {'masks': {'next_set'}}}
+    code = {'rules': {}, 'words': {'masks': {'next_set', 'Mask', 'from'}}}
     made = [collections.defaultdict(lambda: collections.defaultdict(set), {c: collections.defaultdict(set, f) for c, f in of.items()})
             for of in (logic, code, {'words': {'an_edit': {'an_edit'}}})]
     found = Sources(*made, set(), ROOT)
     cases = [
         ('`Flows.floor_load`, `words Laws.the-law`, `words::masks::next_set(mask)`, `words an_edit`, `floor_load`, `statement_names.py`, `docs/`', 0),
         ('`Flows.floorload`', 1), ('`words Laws.law`', 1), ('`rules Laws.the-law`', 1), ('`Laws.the-law`', 0),
+        ('`words::masks::Mask::from`', 0), ('`words::masks::Mask::gone`', 1), ('`words::masks::Gone::from`', 1),
         ('`words::masks::next`', 1), ('`words other_edit`', 1), ('`gone an_edit`', 1), ('`gone`', 1), ('`docs/GONE.md`', 1), ('`gone(mask)`', 1),
     ]
     for page, faults in cases:
