@@ -72,8 +72,10 @@ def anywhere(found, name):
 
 
 def of_path(found, parts):
-    """crate::module::name, crate::module, crate::name or crate::module::Type::method"""
+    """crate::module::name, crate::module, crate::name, crate::module::Type::method or Type::method"""
     crate, *rest = parts
+    if crate[0].isupper() and len(rest) == 1:
+        return any(crate in declared and rest[0] in declared for files in list(found.code.values()) for declared in files.values())
     if not rest:
         return crate in OTHER_WORDS
     if not is_crate(found, crate):
@@ -142,6 +144,7 @@ def must_tell():
         ('`Flows.floor_load`, `words Laws.the-law`, `words::masks::next_set(mask)`, `words an_edit`, `floor_load`, `statement_names.py`, `docs/`', 0),
         ('`Flows.floorload`', 1), ('`words Laws.law`', 1), ('`rules Laws.the-law`', 1), ('`Laws.the-law`', 0),
         ('`words::masks::Mask::from`', 0), ('`words::masks::Mask::gone`', 1), ('`words::masks::Gone::from`', 1),
+        ('`Mask::from`', 0), ('`Mask::gone`', 1), ('`Gone::from`', 1),
         ('`words::masks::next`', 1), ('`words other_edit`', 1), ('`gone an_edit`', 1), ('`gone`', 1), ('`docs/GONE.md`', 1), ('`gone(mask)`', 1),
     ]
     for page, faults in cases:
