@@ -1,77 +1,51 @@
 // Why there is no complete answer, in plain words. The system's reason is the one of the call which failed, as the files keep it.
-use crate::source::{Program, say_call, say_name, say_reason, say_unopened, say_unread, say_which};
+use crate::source::{Program, SAMPLES, Source};
 use exchange::action::Why;
-use perform::{Files, path_end, reason};
+use perform::{Files, PLACES, SLOT};
 use plain_words::reasons::fail;
 use plain_words::shown::show_path;
 use plain_words::texts::say;
 use std::io::{Error, Write};
 
-// The place of the sample file among the arguments.
-const SAMPLES: usize = 2;
-
-// How many arguments can name a file, and the bytes that each path has in the lent paths.
-const PLACES: usize = 8;
-
-const SLOT: usize = 4096;
-
 fn say_usage<W: Write>(err: &mut W, program: Program) {
-    say(err, b"usage: ");
-    say_call(err, program);
-    match program {
-        Program::Check => say(
-            err,
-            b"\ncheck reads a station file and then a sample file, and says whether both are in order for a run.\n",
-        ),
-        Program::Run => say(
-            err,
-            b"\nrun works a station's seconds, 0 to 316224000 of them, over a sample file, and prints a row for each and a line for each set.\n",
-        ),
-    }
+    let call = program.call();
+    let told = match program {
+        Program::Check => {
+            "check reads a station file and then a sample file, and says whether both are in order for a run."
+        }
+        Program::Run => {
+            "run works a station's seconds, 0 to 316224000 of them, over a sample file, and prints a row for each and a line for each set."
+        }
+    };
+    let _ = writeln!(err, "usage: {call}\n{told}");
 }
 
 fn say_small<W: Write>(err: &mut W, program: Program) {
-    say_name(err, program);
-    say(
+    let _ = writeln!(
         err,
-        b"the program was built with a buffer that is too small.\n",
+        "{program}: the program was built with a buffer that is too small."
     );
 }
 
-fn say_read_once<W: Write>(
-    err: &mut W,
-    program: Program,
-    place: usize,
-    path: &[u8],
-    reason: Error,
-) {
-    say_name(err, program);
-    say_which(err, place);
-    show_path(err, path);
-    say(
+fn say_read_once<W: Write>(err: &mut W, source: Source<'_>) {
+    let program = source.program;
+    source.say_of_it(err, "cannot be read twice, as a pipe or a terminal cannot.");
+    source.say_reason(err);
+    let _ = writeln!(
         err,
-        b" cannot be read twice, as a pipe or a terminal cannot.\n",
-    );
-    say_reason(err, program, reason);
-    say_name(err, program);
-    say(
-        err,
-        b"the samples are checked before the first second and then read again; save them to a file, and name that.\n",
+        "{program}: the samples are checked before the first second and then read again; save them to a file, and name that."
     );
 }
 
-fn say_changed<W: Write>(err: &mut W, program: Program, place: usize, path: &[u8]) {
-    say_name(err, program);
-    say_which(err, place);
-    show_path(err, path);
-    say(
+fn say_changed<W: Write>(err: &mut W, source: Source<'_>) {
+    let program = source.program;
+    source.say_of_it(
         err,
-        b" changed while it was being read; the rows are not to be used.\n",
+        "changed while it was being read; the rows are not to be used.",
     );
-    say_name(err, program);
-    say(
+    let _ = writeln!(
         err,
-        b"see that nothing writes to it, such as a logger, or copy it, and run again.\n",
+        "{program}: see that nothing writes to it, such as a logger, or copy it, and run again."
     );
 }
 
@@ -93,47 +67,36 @@ fn say_unwritten<W: Write>(err: &mut W, program: Program, reason: Error) {
 }
 
 fn say_broken<W: Write>(err: &mut W, program: Program, path: &[u8]) {
-    match program {
-        Program::Check => {
-            say(err, b"check: the check of the sample file ");
-            show_path(err, path);
-            say(err, b" broke off. Check again.\n");
-        }
-        Program::Run => {
-            say(err, b"run: the run over the sample file ");
-            show_path(err, path);
-            say(
-                err,
-                b" broke off; the rows are not to be used. Run again.\n",
-            );
-        }
-    }
+    let (begins, ends) = match program {
+        Program::Check => ("the check of", ". Check again."),
+        Program::Run => ("the run over", "; the rows are not to be used. Run again."),
+    };
+    let _ = write!(err, "{program}: {begins} the sample file ");
+    show_path(err, path);
+    let _ = writeln!(err, " broke off{ends}");
 }
 
 // The place of the file that a reason is about.
 fn place_of(why: Why) -> usize {
     match why {
-        Why::WrongCall => SAMPLES,
-        Why::SmallBuffer => SAMPLES,
-        Why::Unopened(place) => place,
-        Why::Unread(place) => place,
-        Why::ReadOnce(place) => place,
-        Why::Changed(place) => place,
-        Why::Unwritten => SAMPLES,
-        Why::Broken => SAMPLES,
+        Why::Unopened(place) | Why::Unread(place) | Why::ReadOnce(place) | Why::Changed(place) => {
+            place
+        }
+        Why::WrongCall | Why::SmallBuffer | Why::Unwritten | Why::Broken => SAMPLES,
     }
 }
 
-fn say_why_of<W: Write>(err: &mut W, program: Program, why: Why, path: &[u8], reason: Error) {
+fn say_why_of<W: Write>(err: &mut W, why: Why, source: Source<'_>) {
+    let program = source.program;
     match why {
         Why::WrongCall => say_usage(err, program),
         Why::SmallBuffer => say_small(err, program),
-        Why::Unopened(place) => say_unopened(err, program, place, path, reason),
-        Why::Unread(place) => say_unread(err, program, place, path, reason),
-        Why::ReadOnce(place) => say_read_once(err, program, place, path, reason),
-        Why::Changed(place) => say_changed(err, program, place, path),
-        Why::Unwritten => say_unwritten(err, program, reason),
-        Why::Broken => say_broken(err, program, path),
+        Why::Unopened(_) => source.say_unopened(err),
+        Why::Unread(_) => source.say_unread(err),
+        Why::ReadOnce(_) => say_read_once(err, source),
+        Why::Changed(_) => say_changed(err, source),
+        Why::Unwritten => say_unwritten(err, program, source.reason),
+        Why::Broken => say_broken(err, program, source.path),
     }
 }
 
@@ -150,9 +113,13 @@ pub fn say_why<W: Write, F>(
         return;
     }
     let from = place * SLOT;
-    let past = from + path_end(files, place);
-    if paths.len() < past {
-        return;
+    if let Some(path) = paths.get(from..from + files.path_end(place)) {
+        let source = Source {
+            program,
+            place,
+            path,
+            reason: files.reason(),
+        };
+        say_why_of(err, why, source);
     }
-    say_why_of(err, program, why, &paths[from..past], reason(files));
 }
