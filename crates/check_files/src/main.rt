@@ -2,16 +2,17 @@
 // check STATION SAMPLES: checks a station file and then a sample file before a run. Standard output has the answer alone;
 // standard error says to a clerk what stands in the files, or what is wrong and what would be right.
 mod end_words;
-mod progress;
-mod turns;
+mod program;
 
 use crate::end_words::say_end;
-use crate::turns::run;
+use crate::program::Check;
+use perform::turns::run;
 
 fn main(rt: HostRuntime) {
     let mut paths = [0u8; 12288];
     let mut space = [0u8; 65536];
     let mut room = [0u8; 256];
-    let ended = run(&rt, &mut paths, &mut space, &mut room);
-    say_end(&rt, ended, &paths);
+    let err = &mut rt.stderr();
+    let ended = run::<Check, _, _>(&rt, err, &mut paths, &mut space, &mut room);
+    say_end(err, ended, &paths);
 }
