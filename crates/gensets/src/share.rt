@@ -5,7 +5,7 @@ ghost use Rattle.rules.specs.Share.{capacity, share};
 ghost use Rattle.gensets.specs.Leaves.{Shareable, shares_told, watts_of};
 
 use rules::station::GenSet;
-use words::masks::next_set;
+use words::masks::places_of;
 
 // Eight sets of at most 10,000,000 W each.
 const MOST_CAPACITY: u64 = 80_000_000;
@@ -32,10 +32,8 @@ pub fn capacity(sets: [GenSet; 8], mask: u32) -> u64
     ensures upper_bound { result ≤ 34_359_738_360 }
 {
     let mut sum: u64 = 0;
-    let mut i = next_set(mask, 0);
-    while i < 8 {
-        sum += sets[i as usize].rating as u64;
-        i = next_set(mask, i + 1);
+    for place in places_of(mask) {
+        sum += sets[place].rating as u64;
     }
     sum
 }
@@ -59,15 +57,12 @@ fn taken(sets: [GenSet; 8], mask: u32, diesel: u32, cap: u32) -> [u32; 8]
     let mut out = [0u32; 8];
     let mut sum: u32 = 0;
     let mut given: u64 = 0;
-    let mut place = next_set(mask, 0);
-    while place < 8 {
-        let at = place as usize;
-        sum += sets[at].rating;
+    for place in places_of(mask) {
+        sum += sets[place].rating;
         // each less what the sets before it took: rounded alone, the shares would miss the diesel power
         let together = upto(diesel, sum, cap);
-        out[at] = (together - given) as u32;
+        out[place] = (together - given) as u32;
         given = together;
-        place = next_set(mask, place + 1);
     }
     out
 }

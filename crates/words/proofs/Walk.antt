@@ -1,7 +1,7 @@
 -- The walk over a mask's sets: the first place from one on is where the mask has a set and none before it, so the walk starts at
 -- the first set, goes up, and misses none. Assumes nothing.
-use Rattle.std.specs.Prelude.{if◌then◌else◌}
-use Prim.Native.Nat.{ℕ, zero, suc, ◌+◌, ◌-◌, ◌/◌, ◌%◌, ◌^◌, ◌≤◌, ◌<◌}
+use Rattle.std.specs.Prelude.{if◌then◌else◌, None, Some}
+use Prim.Native.Nat.{ℕ, zero, suc, ◌+◌, ◌-◌, ◌/◌, ◌%◌, ◌^◌, ◌≤◌, ◌<◌, zero-le}
 use mathlib.Core.Path.{◌≡◌, refl, sym, ap, ◌∙◌}
 use mathlib.Core.Bool.{Bool, true, false}
 use mathlib.Core.Logic.{◌⊎◌, inl, inr}
@@ -13,7 +13,9 @@ use borrow.Author.Tests.{eq-eqb}
 use Rattle.rules.specs.Numbers.{has}
 use Rattle.rules.proofs.Tests.{never}
 use Rattle.rules.proofs.Tables.{has-beyond}
+use Rattle.words.specs.declared.masks.Places.{Places}
 use Rattle.words.specs.Masks.{first_from, next_set}
+use Rattle.words.specs.Places.{Walks}
 use Rattle.words.proofs.Zeros.{zeros-below, one-there}
 
 -- where a walk is: at a set of the mask, or at the end
@@ -136,3 +138,35 @@ module _ (mask : ℕ) where
 
       none : (k : ℕ) → i ≤ k → k < i + z → has mask k ≡ false
       none k a b = low_byte i k a (omega (arith, inside)) ∙ rw (zeros-below 32 (low / 2 ^ i) (k - i) (omega arith))
+
+-- ---- a walk as a loop goes it: before each turn it stands at a place of the mask, and looks for the next set from there on
+
+module _ (mask : ℕ) where
+  pub record Standing (walk : Places) : Type 0 where
+    pub same : walk.mask ≡ mask
+    pub range : walk.from ≤ 8
+
+  pub standing-start : Standing (record { mask = mask; from = 0 })
+  standing-start = record { same = refl; range = zero-le }
+
+  -- a turn: the set that it came to, and where the walk stands then
+  pub record Turned (walk next : Places) (i : ℕ) : Type 0 where
+    pub here : i ≡ next_set mask walk.from
+    pub at : Place mask i
+    pub inside : i < 8
+    pub standing : Standing next
+    pub on : next_set mask next.from ≡ next_set mask (i + 1)
+
+  pub turn : {walk : Places} (next : Places) {i : ℕ} → Standing walk → Walks walk (Some i) next → Turned walk next i
+  turn {walk} next {i} now (same, (here, inside, from)) =
+      let it : i ≡ next_set mask walk.from = here ∙ ap (λ (m : ℕ). next_set m walk.from) now.same in
+      record {
+        here = it;
+        at = rw it (place mask walk.from now.range);
+        inside = inside;
+        standing = record { same = same ∙ now.same; range = omega arith };
+        on = ap (next_set mask) from;
+      }
+
+  pub walk_over : {walk : Places} (next : Places) → Standing walk → Walks walk None next → 8 ≤ next_set mask walk.from
+  walk_over {walk} next now (same, none) = rw now.same at none

@@ -1,2 +1,3 @@
--- What the rules have no word for: the walk over a mask.
+-- What the rules have no word for: the walk over a mask, and its steps.
 pub mod Masks
+pub mod Places
