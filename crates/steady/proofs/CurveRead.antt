@@ -1,20 +1,22 @@
--- A set's lines read from the table: how many of those after the first have begun is the lower point's place, and the numbers of that line
--- give the rate. Assumes nothing.
+-- A set's lines read from the table: how many of those after the first have begun is the lower point's place, and that line gives the
+-- rate. Assumes nothing.
 use Rattle.std.specs.Prelude.{if◌then◌else◌}
+use mir.Val.{bool_byte as from_bool}
 use Prim.Native.Nat.{ℕ, zero, suc, ◌+◌, ◌-◌, ◌*◌, ◌≤◌, ◌<◌}
-use mathlib.Core.Path.{◌≡◌, refl, sym, ap, ◌∙◌}
+use mathlib.Core.Path.{◌≡◌, refl, ap, ◌∙◌}
 use mathlib.Core.Bool.{Bool, true, false}
 use mathlib.Core.List.{List}
 use native.Mathlib.Omega.{arith}
 use native.Mathlib.Nat.{mul-le-mul_right}
 use lib.Dec.{leb}
 use lib.ListN.{get_or}
-use borrow.Author.Tests.{le-leb, lt-leb, leb-true, leb-false}
+use borrow.Author.Tests.{le-leb, lt-leb, leb-true, leb-false, lt-ltb, le-ltb}
 use Rattle.rules.specs.declared.station.GenSet.{GenSet}
 use Rattle.rules.specs.Numbers.{sum_to}
 use Rattle.rules.specs.Fuel.{load_at, lower_of, lower_point, fuel_rate}
 use Rattle.rules.proofs.StationFacts.{rating-range, points-range}
 use Rattle.rules.proofs.Curve.{loads-rise, lower-inside}
+use Rattle.rules.proofs.Tables.{tab-at}
 use Rattle.laws.proofs.FuelMost.{rate-most}
 use Rattle.gensets.specs.Leaves.{line_right}
 use Rattle.gensets.specs.declared.line.Line.{Line}
@@ -22,11 +24,11 @@ use Rattle.gensets.specs.Burned.{per_hour}
 use Rattle.gensets.specs.Lines.{line_from, rate_on}
 use Rattle.gensets.proofs.LineSmall.{right-rate}
 use Rattle.gensets.proofs.FuelFacts.{line-passes}
-use Rattle.steady.specs.CurveTable.{InRule, line_numbers, Readable}
+use Rattle.steady.specs.CurveTable.{InRule, line_or_none, lines_of}
 
 -- 1 where a line begins at or below a power x 1000
 abbrev pub begun : ℕ → ℕ → ℕ
-begun start at = if leb start at then 1 else 0
+begun start at = from_bool (leb start at)
 
 begun-one : (start at : ℕ) → start ≤ at → begun start at ≡ 1
 begun-one start at h = rw (le-leb start at h)
@@ -82,59 +84,50 @@ module _ (g : GenSet) (power : ℕ) (right : InRule g) (start : ℕ → ℕ) (st
       let all : begun_to 3 ≡ begun_to (g.points - 2) = rw e at (none-beyond beyond (g.points - 2) (5 - g.points) (omega (arith, range)) (omega (arith, range))) in
       omega (arith, all, begun-lower (g.points - 2) (omega (arith, range)))
 
--- ---- a set's lines, in the table
+-- ---- a set's lines
 
-module _ {g : GenSet} {lines : List ℕ} {base power : ℕ} (h : Readable g lines base power) where
-  right : InRule g
-  right = h.in-rule
+module _ (g : GenSet) (right : InRule g) (power : ℕ) (most : power ≤ g.rating) where
+  thousands : power * 1000 ≤ 10_000_000_000
+  thousands = omega (arith, most, (rating-range g right.numbers).1)
 
-  pub thousands : power * 1000 ≤ 10_000_000_000
-  thousands = omega (arith, h.power-most, (rating-range g right.numbers).1)
+  begins : (j : ℕ) → suc j < g.points → (line_or_none g j).start ≡ load_at g j * g.rating
+  unfolding line_or_none
+  begins j l = rw (lt-ltb (suc j) g.points l)
 
-  -- where a line begins
-  begins : (j : ℕ) → suc j < g.points → get_or lines (base + j * 4) 0 ≡ load_at g j * g.rating
-  begins j l =
-      let e : base + j * 4 + 0 ≡ base + j * 4 = omega arith in
-      ap (λ (p : ℕ). get_or lines p 0) (sym e) ∙ (h.curve.line j l).number 0 (omega arith)
+  beyond : (j : ℕ) → j < 4 → g.points ≤ suc j → power * 1000 < (line_or_none g j).start
+  unfolding line_or_none
+  beyond j l h = rw (le-ltb (suc j) g.points h) (omega (arith, thousands))
 
-  pub line-counted : begun (get_or lines (base + 4) 0) (power * 1000) + begun (get_or lines (base + 8) 0) (power * 1000) + begun (get_or lines (base + 12) 0) (power * 1000) ≡ lower_point g power
-  line-counted =
-      counted-lower g power right (λ j. get_or lines (base + j * 4) 0) begins (λ j l k. omega (arith, h.curve.beyond j l k, thousands))
+  module _ (lines : List Line) (are : lines ≡ lines_of g) (d : Line) where
+    stands : (j : ℕ) → j < 4 → get_or lines j d ≡ line_or_none g j
+    unfolding lines_of
+    stands j l = ap (λ (k : List Line). get_or k j d) are ∙ tab-at (line_or_none g) 4 j d l
 
-  -- ---- the line of the lower point
+    -- how many of the lines after the first have begun
+    abbrev pub begun_three : ℕ
+    begun_three =
+        begun (get_or lines 1 d).start (power * 1000) + begun (get_or lines 2 d).start (power * 1000) + begun (get_or lines 3 d).start (power * 1000)
 
-  module _ (j : ℕ) (lower : j ≡ lower_point g power) where
-    inside : suc j < g.points
-    inside = rw lower (lower-inside g right.numbers power)
+    lower : begun_three ≡ lower_point g power
+    lower =
+        rw (stands 1 (omega arith), stands 2 (omega arith), stands 3 (omega arith)) (counted-lower g power right (λ j. (line_or_none g j).start) begins beyond)
 
-    pub within-table : j < 4
-    within-table = omega (arith, inside, (points-range g right.numbers).1)
+    -- the rate on the line of the lower point is the set's
+    module _ (j : ℕ) (is : j ≡ lower_point g power) where
+      inside : suc j < g.points
+      inside = rw is (lower-inside g right.numbers power)
 
-    in-line : line_right g j ≡ true
-    in-line = rw lower (line-passes g right.numbers right.pairs power)
+      drawn : get_or lines j d ≡ line_from g j
+      unfolding line_or_none
+      drawn = stands j (omega (arith, inside, (points-range g right.numbers).1)) ∙ rw (lt-ltb (suc j) g.points inside)
 
-    its-start : get_or lines (base + j * 4) 0 ≡ load_at g j * g.rating
-    its-start = begins j inside
+      rate_at-it : (per_hour (rate_on (get_or lines j d) (power * 1000)) ≡ fuel_rate g power) × (per_hour (rate_on (get_or lines j d) (power * 1000)) ≤ 15_000_000_000)
+      unfolding fuel_rate
+      rate_at-it =
+          let near : power * 1000 ≤ 20_000_000_000 = omega (arith, thousands) in
+          let in-line : line_right g j ≡ true = rw is (line-passes g right.numbers right.pairs power) in
+          let same : per_hour (rate_on (get_or lines j d) (power * 1000)) ≡ fuel_rate g power = rw (drawn, right-rate g j in-line power near, is) in
+          (same, rw same (rate-most g right.numbers right.pairs power most))
 
-    number : (k : ℕ) → k < 4 → get_or lines (base + j * 4 + k) 0 ≡ get_or (line_numbers (line_from g j)) k 0
-    number = (h.curve.line j inside).number
-
-    -- the line that stands there
-    abbrev standing : Line
-    standing = record {
-      start = get_or lines (base + j * 4) 0;
-      width = get_or lines (base + j * 4 + 1) 0;
-      first = get_or lines (base + j * 4 + 2) 0;
-      second = get_or lines (base + j * 4 + 3) 0;
-    }
-
-    stands : standing ≡ line_from g j
-    stands = rw (its-start, number 1 (omega arith), number 2 (omega arith), number 3 (omega arith))
-
-    -- the rate on it is the set's
-    pub rate-read : (per_hour (rate_on standing (power * 1000)) ≡ fuel_rate g power) × (per_hour (rate_on standing (power * 1000)) ≤ 15_000_000_000)
-    unfolding fuel_rate
-    rate-read =
-        let near : power * 1000 ≤ 20_000_000_000 = omega (arith, thousands) in
-        let same : per_hour (rate_on standing (power * 1000)) ≡ fuel_rate g power = rw (stands, right-rate g j in-line power near, lower) in
-        (same, rw same (rate-most g right.numbers right.pairs power h.power-most))
+    pub rate-read : (per_hour (rate_on (get_or lines begun_three d) (power * 1000)) ≡ fuel_rate g power) × (per_hour (rate_on (get_or lines begun_three d) (power * 1000)) ≤ 15_000_000_000)
+    rate-read = rate_at-it begun_three lower

@@ -7,5 +7,4 @@ pub mod Adding
 pub mod SteadySteps
 pub mod Walking
 pub mod SteadyEnds
-pub mod Fillable
 pub mod SameRows

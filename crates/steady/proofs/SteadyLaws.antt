@@ -7,7 +7,6 @@ use mathlib.Core.List.{List}
 use native.Mathlib.Omega.{arith}
 use native.Mathlib.Decide.{dec_lt}
 use lib.Dec.{leb, ltb}
-use lib.ListN.{get_or}
 use borrow.Author.Tests.{le-leb, lt-leb}
 use Rattle.rules.specs.declared.station.GenSet.{GenSet}
 use Rattle.rules.specs.declared.run.Mode.TheVariants.{Off}
@@ -23,7 +22,8 @@ use Rattle.rules.proofs.Tests.{to_at, choice}
 use Rattle.rules.proofs.Tables.{tab-at}
 use Rattle.rules.proofs.Masks.{mask-has}
 use Rattle.steady.specs.NextEvent.{counted_down, waited, NoEvent, unmoved, unmoved_all}
-use Rattle.steady.specs.Steady.{ran_for, steady_at, since_steady, energy_at, fuel_at, energies_after, fuels_after}
+use Rattle.steady.specs.declared.steady_counts.Added.{Added}
+use Rattle.steady.specs.Steady.{added_to, ran_for, steady_at, since_steady, added_at, added_after}
 use Rattle.steady.proofs.EventLaws.{on-stays, service-stays, on-uncounted, tick-on, tick-waited, command-stays}
 
 -- ---- tables, masks and tests of the same places are the same
@@ -51,14 +51,14 @@ all_same p q (suc n) h =
 
 -- ---- one set
 
-counts-run : (g : GenSet) (s : SetState) (seconds energy fuel power : ℕ) → is_on s.mode ≡ true
-    → counted g (ran_for s seconds energy fuel) power ≡ ran_for s (seconds + 1) (energy + power) (fuel + fuel_rate g power)
+counts-run : (g : GenSet) (s : SetState) (seconds : ℕ) (own : Added) (power : ℕ) → is_on s.mode ≡ true
+    → counted g (ran_for s seconds own) power ≡ ran_for s (seconds + 1) (record { energy = own.energy + power; fuel = own.fuel + fuel_rate g power })
 unfolding counted
-counts-run g s seconds energy fuel power on =
+counts-run g s seconds own power on =
     let a : s.run + seconds + 1 ≡ s.run + (seconds + 1) = omega arith in
     let b : s.clock + seconds + 1 ≡ s.clock + (seconds + 1) = omega arith in
-    let c : s.energy + energy + power ≡ s.energy + (energy + power) = omega arith in
-    let d : s.fuel + fuel + fuel_rate g power ≡ s.fuel + (fuel + fuel_rate g power) = omega arith in
+    let c : s.energy + own.energy + power ≡ s.energy + (own.energy + power) = omega arith in
+    let d : s.fuel + own.fuel + fuel_rate g power ≡ s.fuel + (own.fuel + fuel_rate g power) = omega arith in
     rw (on, a, b, c, d)
 
 counts-idle : (g : GenSet) (s : SetState) (power : ℕ) → is_on s.mode ≡ false → counted g s power ≡ s
@@ -66,10 +66,10 @@ unfolding counted
 counts-idle g s power off = rw off
 
 -- a set On that is due stays so, and one that is not is not yet
-due-stays : (g : GenSet) (s : SetState) (seconds energy fuel : ℕ) → (s.clock < g.interval → s.clock + seconds < g.interval)
-    → due g (ran_for s seconds energy fuel) ≡ due g s
+due-stays : (g : GenSet) (s : SetState) (seconds : ℕ) (own : Added) → (s.clock < g.interval → s.clock + seconds < g.interval)
+    → due g (ran_for s seconds own) ≡ due g s
 unfolding due
-due-stays g s seconds energy fuel h = go (dec_lt s.clock g.interval)
+due-stays g s seconds own h = go (dec_lt s.clock g.interval)
   where
     go : Dec (s.clock < g.interval) → (ltb 0 g.interval && leb g.interval (s.clock + seconds)) ≡ (ltb 0 g.interval && leb g.interval s.clock)
     go (yes l) = rw (lt-leb g.interval (s.clock + seconds) (h l), lt-leb g.interval s.clock l)
@@ -85,16 +85,16 @@ module _ (sets : List GenSet) (base : List SetState) (on : ℕ) (is-on : on ≡ 
   unfolding on_mask
   on-has i l = ap (λ (m : ℕ). has m i) is-on ∙ mask-has (λ j. is_on (state_at base j).mode) 8 i l
 
-  module _ (seconds : ℕ) (energies fuels : List ℕ) where
+  module _ (seconds : ℕ) (added : List Added) where
     abbrev at : ℕ → SetState
-    at i = steady_at base on seconds energies fuels i
+    at i = steady_at base on seconds added i
 
     abbrev now : List SetState
-    now = since_steady base on seconds energies fuels
+    now = since_steady base on seconds added
 
     pub steady-at : (i : ℕ) → i < 8 → state_at now i ≡ at i
     unfolding state_at since_steady
-    steady-at i l = tab-at (steady_at base on seconds energies fuels) 8 i (fresh Off) l
+    steady-at i l = tab-at (steady_at base on seconds added) 8 i (fresh Off) l
 
     mode-at : (i : ℕ) → i < 8 → (at i).mode ≡ counted_down (state_at base i).mode seconds
     unfolding steady_at
@@ -119,7 +119,7 @@ module _ (sets : List GenSet) (base : List SetState) (on : ℕ) (is-on : on ≡ 
     steady-commanded called h =
         let left : (i : ℕ) → i < 8 → unmoved (state_at base i).mode (has called i) (every_on now called) ≡ true =
         λ i l. ap (λ (b : Bool). unmoved (state_at base i).mode (has called i) b) (steady-every called) ∙ to_at (λ j. unmoved (state_at base j).mode (has called j) (every_on base called)) 8 h i l in
-        tab-same (λ i. command_from (set_at sets i) (state_at now i) (has called i) (every_on now called) (state_at now i).mode) (steady_at base on seconds energies fuels) 8
+        tab-same (λ i. command_from (set_at sets i) (state_at now i) (has called i) (every_on now called) (state_at now i).mode) (steady_at base on seconds added) 8
         (λ i l. command-stays (set_at sets i) (state_at now i) (has called i) (every_on now called) (state_at base i).mode seconds (mode-now i l) (left i l) ∙ steady-at i l)
 
     -- step 10
@@ -128,7 +128,7 @@ module _ (sets : List GenSet) (base : List SetState) (on : ℕ) (is-on : on ≡ 
     unfolding steady_at due
     due-at i l h =
         choice (λ (s : SetState). due (set_at sets i) s ≡ due (set_at sets i) (state_at base i)) (has on i) _ _
-        (λ e. due-stays (set_at sets i) (state_at base i) seconds (get_or energies i 0) (get_or fuels i 0) ((h.each i l).not-due (sym (on-has i l) ∙ e)))
+        (λ e. due-stays (set_at sets i) (state_at base i) seconds (added_to added i) ((h.each i l).not-due (sym (on-has i l) ∙ e)))
         (λ e. refl)
 
     pub steady-barred : NoEvent sets base seconds → barred_mask sets base ≡ barred_mask sets now
@@ -150,11 +150,11 @@ module _ (sets : List GenSet) (base : List SetState) (on : ℕ) (is-on : on ≡ 
       unfolding state_at ticked
       later-is i l = tab-at (λ j. tick (set_at sets j) (state_at now j)) 8 i (fresh Off) l ∙ ap (tick (set_at sets i)) (steady-at i l)
 
-      pub later-on : (i : ℕ) → i < 8 → has on i ≡ true → state_at later i ≡ ran_for (state_at base i) seconds (get_or energies i 0) (get_or fuels i 0)
+      pub later-on : (i : ℕ) → i < 8 → has on i ≡ true → state_at later i ≡ ran_for (state_at base i) seconds (added_to added i)
       unfolding steady_at tick
       later-on i l e =
           later-is i l
-          ∙ (rw e (tick-on (set_at sets i) (ran_for (state_at base i) seconds (get_or energies i 0) (get_or fuels i 0)) (state_at base i).mode (sym (on-has i l) ∙ e)))
+          ∙ (rw e (tick-on (set_at sets i) (ran_for (state_at base i) seconds (added_to added i)) (state_at base i).mode (sym (on-has i l) ∙ e)))
 
       later-waited : (i : ℕ) → i < 8 → has on i ≡ false → state_at later i ≡ waited (state_at base i) (seconds + 1)
       unfolding steady_at
@@ -172,31 +172,24 @@ module _ (sets : List GenSet) (base : List SetState) (on : ℕ) (is-on : on ≡ 
       steady-on = is-on ∙ mask-same (λ i. is_on (state_at base i).mode) (λ i. is_on (state_at later i).mode) 8 (λ i l. sym (on-has i l) ∙ has-later i l)
 
       module _ (diesel : ℕ) where
-        abbrev energies' : List ℕ
-        energies' = energies_after sets on diesel energies
+        abbrev added' : List Added
+        added' = added_after sets on diesel added
 
-        abbrev fuels' : List ℕ
-        fuels' = fuels_after sets on diesel fuels
+        added-is : (i : ℕ) → i < 8 → added_to added' i ≡ added_at sets on diesel added i
+        unfolding added_after
+        added-is i l = tab-at (added_at sets on diesel added) 8 i (record { energy = 0; fuel = 0 }) l
 
-        energy-is : (i : ℕ) → i < 8 → get_or energies' i 0 ≡ energy_at sets on diesel energies i
-        unfolding energies_after
-        energy-is i l = tab-at (energy_at sets on diesel energies) 8 i 0 l
-
-        fuel-is : (i : ℕ) → i < 8 → get_or fuels' i 0 ≡ fuel_at sets on diesel fuels i
-        unfolding fuels_after
-        fuel-is i l = tab-at (fuel_at sets on diesel fuels) 8 i 0 l
-
-        more-at : (i : ℕ) → i < 8 → (b : Bool) → has on i ≡ b → counted (set_at sets i) (state_at later i) (share sets on diesel i) ≡ steady_at base on (seconds + 1) energies' fuels' i
-        unfolding steady_at energy_at fuel_at
+        more-at : (i : ℕ) → i < 8 → (b : Bool) → has on i ≡ b → counted (set_at sets i) (state_at later i) (share sets on diesel i) ≡ steady_at base on (seconds + 1) added' i
+        unfolding steady_at added_at
         more-at i l true e =
-            rw (later-on i l e, energy-is i l, fuel-is i l, e)
-            (counts-run (set_at sets i) (state_at base i) seconds (get_or energies i 0) (get_or fuels i 0) (share sets on diesel i) (sym (on-has i l) ∙ e))
+            rw (later-on i l e, added-is i l, e)
+            (counts-run (set_at sets i) (state_at base i) seconds (added_to added i) (share sets on diesel i) (sym (on-has i l) ∙ e))
         more-at i l false e =
             rw (later-waited i l e, e)
             (counts-idle (set_at sets i) (waited (state_at base i) (seconds + 1)) (share sets on diesel i) (on-stays (state_at base i).mode (seconds + 1) ∙ sym (on-has i l) ∙ e))
 
-        pub steady-counted : since_steady base on (seconds + 1) energies' fuels' ≡ counted_all sets later on diesel
+        pub steady-counted : since_steady base on (seconds + 1) added' ≡ counted_all sets later on diesel
         unfolding counted_all since_steady
         steady-counted =
-            tab-same (steady_at base on (seconds + 1) energies' fuels') (λ i. counted (set_at sets i) (state_at later i) (share sets on diesel i)) 8
+            tab-same (steady_at base on (seconds + 1) added') (λ i. counted (set_at sets i) (state_at later i) (share sets on diesel i)) 8
             (λ i l. sym (more-at i l (has on i) refl))

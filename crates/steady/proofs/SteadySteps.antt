@@ -37,30 +37,31 @@ use Rattle.steps.proofs.Ready.{ticked-small, on-right, diesel-cap}
 use Rattle.set_moves.proofs.SetsRuled.{all-commanded}
 use Rattle.steps.proofs.Ruled.{stepped-is, watts-ruled, ran-ruled, ran-switches}
 use Rattle.steps.proofs.StepsTaken.{watts-in, stepped_by}
+use Rattle.steady.specs.declared.steady_counts.Added.{Added}
 use Rattle.steady.specs.declared.steady_step.AfterSecond.{AfterSecond}
 use Rattle.steady.specs.declared.steady_step.Steady.{Steady}
 use Rattle.steady.specs.declared.steady_step.Standing.{Standing}
 use Rattle.steady.specs.NextEvent.{NoEvent}
-use Rattle.steady.specs.Steady.{ran_for, since_steady, energies_after, fuels_after, Addable}
+use Rattle.steady.specs.Steady.{added_to, ran_for, since_steady, added_after, Addable}
 use Rattle.steady.specs.SteadySecond.{Kept, run_at, commanded_since, SteadyStepped}
 use Rattle.steady.proofs.SteadyLaws.{steady-barred, later-on, has-later, steady-on, steady-counted}
 
 -- what a set On has beside it is no more than its counts
-beside-small : (s : SetState) (seconds energy fuel : ℕ) → Small (ran_for s seconds energy fuel) → (energy ≤ 3_162_240_000_000_000) × (fuel ≤ 4_743_360_000_000_000_000)
-beside-small s seconds energy fuel h = (omega (arith, h.energy-most), omega (arith, h.fuel-most))
+beside-small : (s : SetState) (seconds : ℕ) (own : Added) → Small (ran_for s seconds own) → (own.energy ≤ 3_162_240_000_000_000) × (own.fuel ≤ 4_743_360_000_000_000_000)
+beside-small s seconds own h = (omega (arith, h.energy-most), omega (arith, h.fuel-most))
 
 -- the same sets, mask and power count the same
 counted_same : (f : List SetState → ℕ → ℕ → List SetState) {a b : List SetState} {m n d e : ℕ} → a ≡ b → m ≡ n → d ≡ e → f a m d ≡ f b n e
 counted_same f {a} {b} {m} {n} {d} {e} p q r = ap (λ (z : List SetState). f z m d) p ∙ ap (λ (z : ℕ). f b z d) q ∙ ap (f b n) r
 
 module _ (st : Station) (tables : Tables st) (q : Steady) (s : Standing) (kept : Kept st q) (calm : NoEvent st.sets q.states (s.ran + 1))
-    (energies fuels decided : List ℕ) (x : Inputs) (h : Admitted st (run_at q s energies fuels decided) x)
+    (added : List Added) (decided : List ℕ) (x : Inputs) (h : Admitted st (run_at q s added decided) x)
     (caps : List ℕ) (rates : Rated st.sets st.configs caps) (sixty : length decided ≡ 60) where
   abbrev now : List SetState
-  now = since_steady q.states q.on s.ran energies fuels
+  now = since_steady q.states q.on s.ran added
 
   abbrev r : Run
-  r = run_at q s energies fuels decided
+  r = run_at q s added decided
 
   -- the sets after the tick
   abbrev later : List SetState
@@ -71,7 +72,7 @@ module _ (st : Station) (tables : Tables st) (q : Steady) (s : Standing) (kept :
   states-are = refl
 
   mask_is : q.on ≡ on_mask later
-  mask_is = steady-on st.sets q.states q.on kept.is-on s.ran energies fuels calm
+  mask_is = steady-on st.sets q.states q.on kept.is-on s.ran added calm
 
   on-is : q.on ≡ on_now st r
   unfolding on_now
@@ -94,17 +95,17 @@ module _ (st : Station) (tables : Tables st) (q : Steady) (s : Standing) (kept :
     diesel-most = rw (on-is, ap (λ (z : Watts). z.diesel) watts-are) (diesel-cap st tables r x h)
 
     shown : (i : ℕ) → i < 8 → has q.on i ≡ true → is_on (state_at (states_now st r) i).mode ≡ true
-    shown i l on = rw (← states-are) (sym (has-later st.sets q.states q.on kept.is-on s.ran energies fuels calm i l) ∙ on)
+    shown i l on = rw (← states-are) (sym (has-later st.sets q.states q.on kept.is-on s.ran added calm i l) ∙ on)
 
     -- what stands beside a set On
-    beside : (i : ℕ) → i < 8 → has q.on i ≡ true → (get_or energies i 0 ≤ 3_162_240_000_000_000) × (get_or fuels i 0 ≤ 4_743_360_000_000_000_000)
+    beside : (i : ℕ) → i < 8 → has q.on i ≡ true → ((added_to added i).energy ≤ 3_162_240_000_000_000) × ((added_to added i).fuel ≤ 4_743_360_000_000_000_000)
     beside i l on =
         let small : Small (state_at later i) = rw states-are (ticked-small st tables r x h i l) in
-        beside-small (state_at q.states i) s.ran (get_or energies i 0) (get_or fuels i 0)
-        (rw (later-on st.sets q.states q.on kept.is-on s.ran energies fuels calm i l on) at small)
+        beside-small (state_at q.states i) s.ran (added_to added i)
+        (rw (later-on st.sets q.states q.on kept.is-on s.ran added calm i l on) at small)
 
-    pub addable : length energies ≡ 8 → length fuels ≡ 8 → Addable st.sets q.on m.watts.diesel q.cap energies fuels
-    addable e f = record {
+    pub addable : Addable st.sets q.on m.watts.diesel q.cap added
+    addable = record {
       is-cap = kept.is-cap;
       capacity-most = capacity-most st h.station-given q.on;
       diesel-most = diesel-most;
@@ -112,16 +113,14 @@ module _ (st : Station) (tables : Tables st) (q : Steady) (s : Standing) (kept :
       pairs = λ i l on. (on-right st tables r x h i l (shown i l on)).1;
       energies-most = λ i l on. (beside i l on).0;
       fuels-most = λ i l on. (beside i l on).1;
-      energies-length = e;
-      fuels-length = f;
     }
 
     -- the calls from the flows on, by what each ensures
     module _ (amounts : List ℕ) (moves : amounts ≡ decided_in st.control.delay m.decided decided)
-        (adds burns : List ℕ) (added : adds ≡ energies_after st.sets q.on m.watts.diesel energies) (burned : burns ≡ fuels_after st.sets q.on m.watts.diesel fuels)
+        (adds : List Added) (counts : adds ≡ added_after st.sets q.on m.watts.diesel added)
         (c : Committed) (commits : CommittedBy st caps q.barred s.moment.setpoint s.moment.called s.moment.since s.moment.done m.watts x.sheddable c) where
       abbrev ran' : List SetState
-      ran' = since_steady q.states q.on (s.ran + 1) adds burns
+      ran' = since_steady q.states q.on (s.ran + 1) adds
 
       abbrev counted : List SetState
       counted = counted_all_in st.sets later q.on m.watts.diesel
@@ -129,9 +128,8 @@ module _ (st : Station) (tables : Tables st) (q : Steady) (s : Standing) (kept :
       ran-is : ran' ≡ ran_now st r w
       unfolding ran_now
       ran-is =
-          ap (λ (l : List ℕ). since_steady q.states q.on (s.ran + 1) l burns) added
-          ∙ ap (since_steady q.states q.on (s.ran + 1) (energies_after st.sets q.on m.watts.diesel energies)) burned
-          ∙ steady-counted st.sets q.states q.on kept.is-on s.ran energies fuels calm m.watts.diesel
+          ap (since_steady q.states q.on (s.ran + 1)) counts
+          ∙ steady-counted st.sets q.states q.on kept.is-on s.ran added calm m.watts.diesel
           ∙ counted_same (counted_all st.sets) states-are on-is (ap (λ (z : Watts). z.diesel) watts-are)
 
       counted_is : counted ≡ ran_now st r w
@@ -140,7 +138,7 @@ module _ (st : Station) (tables : Tables st) (q : Steady) (s : Standing) (kept :
 
       barred-is : q.barred ≡ barred_mask st.sets counted
       barred-is =
-          kept.is-barred ∙ steady-barred st.sets q.states q.on kept.is-on (s.ran + 1) adds burns calm
+          kept.is-barred ∙ steady-barred st.sets q.states q.on kept.is-on (s.ran + 1) adds calm
           ∙ ap (barred_mask st.sets) (ran-is ∙ sym counted_is)
 
       commanded-is : (mask : ℕ) → commanded_all_in st.sets counted mask ≡ commanded_all st.sets ran' mask
@@ -150,14 +148,14 @@ module _ (st : Station) (tables : Tables st) (q : Steady) (s : Standing) (kept :
           ∙ ap (λ (l : List SetState). commanded_all st.sets l mask) (sym ran-is)
 
       pub steady-stepped : (g : AfterSecond) → g.moment ≡ moment_after s.moment c.call c.held m.store m.watts → g.row ≡ row_of s.moment.done m.watts q.on c.call m.store
-          → SteadyStepped st q s r x g adds burns amounts
+          → SteadyStepped st q s r x g adds amounts
       steady-stepped g moment row =
           let mask : ℕ = mask_called st.configs c.call in
           let taken = stepped_by st caps now s.moment decided x later refl q.on mask_is q.cap cap-fits q.floor kept.is-floor old first m met amounts moves counted refl q.barred barred-is c commits mask refl
           (record { moment = g.moment; states = commanded_all_in st.sets counted mask; row = g.row }) moment refl row
           in
           let same = stepped-is st tables caps rates r sixty x h (record { moment = g.moment; states = commanded_all_in st.sets counted mask; row = g.row }) amounts taken in
-          let called : commanded_since st q (s.ran + 1) adds burns g.moment.called ≡ commanded_all_in st.sets counted mask =
-          ap (λ (z : Moment). commanded_since st q (s.ran + 1) adds burns z.called) moment ∙ sym (commanded-is mask)
+          let called : commanded_since st q (s.ran + 1) adds g.moment.called ≡ commanded_all_in st.sets counted mask =
+          ap (λ (z : Moment). commanded_since st q (s.ran + 1) adds z.called) moment ∙ sym (commanded-is mask)
           in
           record { after = ap (λ (l : List SetState). run_of g.moment l amounts) called ∙ ap (λ (z : Step). z.run) same; row = ap (λ (z : Step). z.row) same }

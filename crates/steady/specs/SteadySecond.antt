@@ -17,10 +17,12 @@ use Rattle.commitment.specs.Choice.{Rated}
 use Rattle.moments.specs.declared.parts.Moment.{Moment}
 use Rattle.moments.specs.Parts.{run_of}
 use Rattle.dispatch.specs.Working.{Admits, Works}
+use Rattle.steady.specs.declared.steady_counts.Added.{Added}
 use Rattle.steady.specs.declared.steady_step.Steady.{Steady}
 use Rattle.steady.specs.declared.steady_step.Standing.{Standing}
 use Rattle.steady.specs.declared.steady_step.AfterSecond.{AfterSecond}
 use Rattle.steady.specs.declared.steady_seconds.AfterSeconds.{AfterSeconds}
+use Rattle.steady.specs.CurveTable.{Tabled}
 use Rattle.steady.specs.NextEvent.{NoEvent, unmoved_all}
 use Rattle.steady.specs.Steady.{since_steady}
 
@@ -30,39 +32,38 @@ pub record Kept (st : Station) (q : Steady) : Type 0 where
   pub is-cap : q.cap ≡ capacity st.sets q.on
   pub is-floor : q.floor ≡ floor_load st q.on
   pub is-barred : q.barred ≡ barred_mask st.sets q.states
+  pub is-tabled : Tabled st.sets q.on q.tables
 
 -- the record where steady seconds stand
-abbrev pub run_at : Steady → Standing → List ℕ → List ℕ → List ℕ → Run
-run_at q s energies fuels decided = run_of s.moment (since_steady q.states q.on s.ran energies fuels) decided
+abbrev pub run_at : Steady → Standing → List Added → List ℕ → Run
+run_at q s added decided = run_of s.moment (since_steady q.states q.on s.ran added) decided
 
 -- the sets after some steady seconds and the commands of the last
-abbrev pub commanded_since : Station → Steady → ℕ → List ℕ → List ℕ → ℕ → List SetState
-commanded_since st q ran energies fuels called =
-    commanded_all st.sets (since_steady q.states q.on ran energies fuels) (mask_called st.configs called)
+abbrev pub commanded_since : Station → Steady → ℕ → List Added → ℕ → List SetState
+commanded_since st q ran added called =
+    commanded_all st.sets (since_steady q.states q.on ran added) (mask_called st.configs called)
 
 -- what the steps of a steady second owe, with the arrays as they are left: the rules' own, of the record where it stood
-pub record SteadyStepped (st : Station) (q : Steady) (s : Standing) (r : Run) (x : Inputs) (g : AfterSecond) (energies fuels decided : List ℕ) : Type 0 where
-  pub after : run_of g.moment (commanded_since st q (s.ran + 1) energies fuels g.moment.called) decided ≡ (step st r x).run
+pub record SteadyStepped (st : Station) (q : Steady) (s : Standing) (r : Run) (x : Inputs) (g : AfterSecond) (added : List Added) (decided : List ℕ) : Type 0 where
+  pub after : run_of g.moment (commanded_since st q (s.ran + 1) added g.moment.called) decided ≡ (step st r x).run
   pub row : g.row ≡ (step st r x).row
 
 -- what a walk over steady seconds may take for granted
-pub record Walkable (st : Station) (q : Steady) (m : Moment) (inputs decided energies fuels rows : List ℕ) : Type 0 where
+pub record Walkable (st : Station) (q : Steady) (m : Moment) (inputs decided : List ℕ) (added : List Added) (rows : List ℕ) : Type 0 where
   pub kept : Kept st q
   pub unmoved : unmoved_all q.states q.called ≡ true
   pub called : mask_called st.configs m.called ≡ q.called
   pub no-event : NoEvent st.sets q.states (length (inputs_each inputs))
-  pub admits : Admits st (run_of m (since_steady q.states q.on 0 energies fuels) decided) (inputs_each inputs)
+  pub admits : Admits st (run_of m (since_steady q.states q.on 0 added) decided) (inputs_each inputs)
   pub some : 0 < length (inputs_each inputs)
   pub room : 13 * length (inputs_each inputs) ≤ length rows
   pub sixty : length decided ≡ 60
-  pub energies-length : length energies ≡ 8
-  pub fuels-length : length fuels ≡ 8
 
 -- what it owes: some seconds are worked, and the record is possible
-pub record Walks (st : Station) (q : Steady) (r : Run) (xs : List Inputs) (lent : List ℕ) (m : Moment) (ran : ℕ) (energies fuels decided rows : List ℕ) : Type 0 where
-  pub works : Works st r xs lent ran (run_of m (commanded_since st q ran energies fuels m.called) decided) rows
+pub record Walks (st : Station) (q : Steady) (r : Run) (xs : List Inputs) (lent : List ℕ) (m : Moment) (ran : ℕ) (added : List Added) (decided rows : List ℕ) : Type 0 where
+  pub works : Works st r xs lent ran (run_of m (commanded_since st q ran added m.called) decided) rows
   pub some : 0 < ran
-  pub stays-possible : possible st (run_of m (commanded_since st q ran energies fuels m.called) decided) ≡ true
+  pub stays-possible : possible st (run_of m (commanded_since st q ran added m.called) decided) ≡ true
 
 -- what the seconds from a place on may take for granted
 pub record Workable (st : Station) (states : List SetState) (m : Moment) (caps inputs decided rows : List ℕ) : Type 0 where

@@ -9,13 +9,6 @@ use set_moves::commands::{every_on, has_set};
 // No more seconds than this are worked at a stretch.
 const LONGEST: usize = 4_294_967_295;
 
-// What is left of a count after some seconds.
-fn left_after(left: u32, seconds: u32) -> u32
-    ensures { result ≡ left - seconds }
-{
-    if left < seconds { 0 } else { left - seconds }
-}
-
 // How many seconds a set On may run before it is due; one that is due stays so, and one without an interval never is.
 fn due_after(interval: u32, clock: u32) -> usize
     ensures { (result ≤ longest) × (clock < interval → clock + result < interval) }
@@ -31,13 +24,12 @@ fn due_after(interval: u32, clock: u32) -> usize
 fn until_own_event(genset: GenSet, state: SetState) -> usize
     ensures { NoOwnEvent genset state result }
 {
-    let mode = state.mode;
-    match mode {
+    match state.mode {
         Mode::Off => LONGEST,
-        Mode::Warming(left) => left_after(left, 1) as usize,
         Mode::On => due_after(genset.interval, state.clock),
-        Mode::Cooling(left) => left_after(left, 1) as usize,
-        Mode::Service(left) => left_after(left, 1) as usize,
+        Mode::Warming(left) | Mode::Cooling(left) | Mode::Service(left) => left.saturating_sub(
+            1,
+        ) as usize,
     }
 }
 
@@ -46,15 +38,8 @@ pub(crate) fn until_event(sets: [GenSet; 8], states: [SetState; 8]) -> usize
     ensures { NoEvent sets states result }
 {
     let mut least = LONGEST;
-    let mut i: usize = 0;
-    while i < 8 {
-        let genset = sets[i];
-        let state = states[i];
-        i += 1;
-        let own = until_own_event(genset, state);
-        if own < least {
-            least = own;
-        }
+    for i in 0..8 {
+        least = least.min(until_own_event(sets[i], states[i]));
     }
     least
 }
@@ -64,10 +49,10 @@ fn counted_down(mode: Mode, seconds: u32) -> Mode
 {
     match mode {
         Mode::Off => Mode::Off,
-        Mode::Warming(left) => Mode::Warming(left_after(left, seconds)),
+        Mode::Warming(left) => Mode::Warming(left.saturating_sub(seconds)),
         Mode::On => Mode::On,
-        Mode::Cooling(left) => Mode::Cooling(left_after(left, seconds)),
-        Mode::Service(left) => Mode::Service(left_after(left, seconds)),
+        Mode::Cooling(left) => Mode::Cooling(left.saturating_sub(seconds)),
+        Mode::Service(left) => Mode::Service(left.saturating_sub(seconds)),
     }
 }
 
@@ -75,15 +60,9 @@ fn counted_down(mode: Mode, seconds: u32) -> Mode
 pub(crate) fn waited(state: SetState, seconds: u32) -> SetState
     ensures { result ≡ waited state seconds }
 {
-    let mode = state.mode;
     SetState {
-        mode: counted_down(mode, seconds),
-        run: state.run,
-        clock: state.clock,
-        starts: state.starts,
-        stops: state.stops,
-        energy: state.energy,
-        fuel: state.fuel,
+        mode: counted_down(state.mode, seconds),
+        ..state
     }
 }
 
@@ -95,8 +74,7 @@ fn unmoved(mode: Mode, called: bool, release: bool) -> bool
         Mode::Off => !called,
         Mode::Warming(_) => called,
         Mode::On => called | !release,
-        Mode::Cooling(_) => true,
-        Mode::Service(_) => true,
+        Mode::Cooling(_) | Mode::Service(_) => true,
     }
 }
 
@@ -106,12 +84,8 @@ pub(crate) fn unmoved_all(states: [SetState; 8], mask: u32) -> bool
 {
     let release = every_on(states, mask);
     let mut ok = true;
-    let mut i: usize = 0;
-    while i < 8 {
-        let state = states[i];
-        let mode = state.mode;
-        ok = ok & unmoved(mode, has_set(mask, i), release);
-        i += 1;
+    for i in 0..8 {
+        ok = ok & unmoved(states[i].mode, has_set(mask, i), release);
     }
     ok
 }

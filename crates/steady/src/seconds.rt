@@ -16,9 +16,7 @@ fn work_seconds(st: Station, run: Run, inputs: &[u32], count: usize, rows: &mut 
     requires { Admits st run (inputs_each inputs.now) × (count ≡ length (inputs_each inputs.now)) × (13 * count ≤ length rows.old) }
     ensures { Works st run (inputs_each inputs.now) rows.old count result rows.new }
 {
-    let sets = st.sets;
-    let configs = st.configs;
-    let caps = capacities(sets, configs);
+    let caps = capacities(st.sets, st.configs);
     let mut decided = run.decided;
     let mut states = run.sets;
     let mut moment = moment_of(run);
@@ -46,11 +44,9 @@ pub fn seconds(st: Station, run: Run, inputs: &[u32], rows: &mut [u64]) -> Worke
 {
     let judged = judge_seconds(st, run, inputs, rows.len() / ROW_COLUMNS);
     let count = judged.seconds;
-    let ended = judged.ended;
-    let after = work_seconds(st, run, &inputs[..SECOND_INPUTS * count], count, rows);
     Worked {
-        run: after,
+        run: work_seconds(st, run, &inputs[..SECOND_INPUTS * count], count, rows),
         seconds: count,
-        ended,
+        ended: judged.ended,
     }
 }

@@ -3,9 +3,9 @@
 ghost use Rattle.std.specs.Prelude.{◌≡◌, ◌<◌};
 ghost use Rattle.set_moves.specs.Sized.{Small};
 ghost use Rattle.steady.specs.CurveTable.{Tabled};
-ghost use Rattle.steady.specs.Steady.{ran_for, since_steady, energies_after, fuels_after, Addable, Makeable};
+ghost use Rattle.steady.specs.Steady.{ran_for, since_steady, added_after, Addable, Makeable};
 
-use crate::curve_table::burned_at;
+use crate::curve_table::{SetTable, burned_on};
 use crate::next_event::waited;
 use gensets::share::upto;
 use rules::run::SetState;
@@ -13,50 +13,56 @@ use rules::station::GenSet;
 use set_moves::commands::has_set;
 use words::masks::next_set;
 
-// What a second adds to the counts of the mask's sets, each at its share of the diesel power.
+// What the seconds of a stretch have added to a set On.
+#[derive(Clone, Copy)]
+pub(crate) struct Added {
+    // in Ws
+    pub(crate) energy: u64,
+    // in units of 1/3600 mL
+    pub(crate) fuel: u64,
+}
+
+// What a second adds to the counts of the mask's sets, each at its share of the diesel power. The sets are named for the contract alone:
+// what is read of them stands in the table.
 pub(crate) fn count_steady(
     sets: [GenSet; 8],
-    sums: &[u64; 8],
-    lines: &[u64; 128],
+    tables: &[SetTable; 8],
     mask: u32,
     diesel: u32,
     cap: u32,
-    energies: &mut [u64],
-    fuels: &mut [u64],
+    added: &mut [Added; 8],
 )
-    requires { Addable sets mask diesel cap energies.old fuels.old × Tabled sets mask sums.now lines.now }
-    ensures { (energies.new ≡ energies_after sets mask diesel energies.old) × (fuels.new ≡ fuels_after sets mask diesel fuels.old) }
+    requires { Addable sets mask diesel cap added.old × Tabled sets mask tables.now }
+    ensures { added.new ≡ added_after sets mask diesel added.old }
 {
     let mut given: u64 = 0;
     let mut place = next_set(mask, 0);
     while place < 8 {
         let at = place as usize;
-        let genset = sets[at];
         // each less what the sets before it took: rounded alone, the shares would miss the diesel power
-        let together = upto(diesel, sums[at] as u32, cap);
+        let together = upto(diesel, tables[at].sum as u32, cap);
         let power = together - given;
         given = together;
-        let burns = burned_at(genset, at, lines, power);
-        energies[at] = energies[at] + power;
-        fuels[at] = fuels[at] + burns;
+        let burns = burned_on(&tables[at].lines, power);
+        added[at] = Added {
+            energy: added[at].energy + power,
+            fuel: added[at].fuel + burns,
+        };
         place = next_set(mask, place + 1);
     }
 }
 
 // A set On after some seconds, with what they added.
-fn ran_for(state: SetState, seconds: u32, energy: u64, fuel: u64) -> SetState
-    requires { Small (ran_for state seconds energy fuel) }
-    ensures { result ≡ ran_for state seconds energy fuel }
+fn ran_for(state: SetState, seconds: u32, added: Added) -> SetState
+    requires { Small (ran_for state seconds added) }
+    ensures { result ≡ ran_for state seconds added }
 {
-    let mode = state.mode;
     SetState {
-        mode,
         run: state.run + seconds,
         clock: state.clock + seconds,
-        starts: state.starts,
-        stops: state.stops,
-        energy: state.energy + energy,
-        fuel: state.fuel + fuel,
+        energy: state.energy + added.energy,
+        fuel: state.fuel + added.fuel,
+        ..state
     }
 }
 
@@ -65,22 +71,17 @@ pub(crate) fn made(
     states: [SetState; 8],
     mask: u32,
     seconds: u32,
-    energies: &[u64],
-    fuels: &[u64],
+    added: &[Added; 8],
 ) -> [SetState; 8]
-    requires { Makeable states mask seconds energies.now fuels.now }
-    ensures { result ≡ since_steady states mask seconds energies.now fuels.now }
+    requires { Makeable states mask seconds added.now }
+    ensures { result ≡ since_steady states mask seconds added.now }
 {
     let mut out = states;
-    let mut i: usize = 0;
-    while i < 8 {
-        let at = i;
-        i += 1;
-        let state = out[at];
-        if has_set(mask, at) {
-            out[at] = ran_for(state, seconds, energies[at], fuels[at]);
+    for i in 0..8 {
+        if has_set(mask, i) {
+            out[i] = ran_for(out[i], seconds, added[i]);
         } else {
-            out[at] = waited(state, seconds);
+            out[i] = waited(out[i], seconds);
         }
     }
     out

@@ -6,11 +6,11 @@ ghost use Rattle.rules.specs.StationRecord.{some_file_gives};
 ghost use Rattle.steady.specs.NextEvent.{NoEvent, unmoved_all};
 ghost use Rattle.steady.specs.SteadySecond.{Kept, SteadyFor, Workable, GoesOn};
 
-use crate::curve_table::fill_tables;
+use crate::curve_table::tables_of;
 use crate::next_event::{unmoved_all, until_event};
-use crate::steady_counts::made;
+use crate::steady_counts::{Added, made};
 use crate::steady_step::Steady;
-use crate::steady_walk::{Stretch, steady_walk};
+use crate::steady_walk::steady_walk;
 use commitment::configuration::{capacity_fitting, mask_called};
 use flows::floor::floor_load;
 use modes::masks::{barred_mask, on_mask};
@@ -34,8 +34,7 @@ pub(crate) fn steady_for(st: Station, states: [SetState; 8], called: u32) -> usi
     if !unmoved_all(states, called) {
         return 0;
     }
-    let sets = st.sets;
-    until_event(sets, states)
+    until_event(st.sets, states)
 }
 
 // What stays the same until the next event.
@@ -43,55 +42,39 @@ pub(crate) fn kept(st: Station, states: [SetState; 8], called: u32) -> Steady
     requires { some_file_gives st ≡ true }
     ensures { Kept st result × (result.states ≡ states) × (result.called ≡ called) }
 {
-    let sets = st.sets;
     let on = on_mask(states);
+    let tables = tables_of(st.sets, on);
     Steady {
         on,
         called,
-        cap: capacity_fitting(sets, on),
+        cap: capacity_fitting(st.sets, on),
         floor: floor_load(st, on),
-        barred: barred_mask(sets, states),
+        barred: barred_mask(st.sets, states),
         states,
+        tables,
     }
 }
 
 pub(crate) fn steady_seconds(
     st: Station,
     caps: &[u32; 64],
-    steady: Steady,
+    steady: &Steady,
     moment: Moment,
     inputs: &[u32],
     decided: &mut [u32],
     rows: &mut [u64],
 ) -> AfterSeconds
-    requires { Workable st steady.states moment caps.now inputs.now decided.old rows.old × Kept st steady × (unmoved_all steady.states steady.called ≡ true) × (mask_called st.configs moment.called ≡ steady.called) × NoEvent st.sets steady.states (length (inputs_each inputs.now)) }
-    ensures { GoesOn st steady.states moment inputs.now decided.old rows.old result decided.new rows.new }
+    requires { Workable st steady.now.states moment caps.now inputs.now decided.old rows.old × Kept st steady.now × (unmoved_all steady.now.states steady.now.called ≡ true) × (mask_called st.configs moment.called ≡ steady.now.called) × NoEvent st.sets steady.now.states (length (inputs_each inputs.now)) }
+    ensures { GoesOn st steady.now.states moment inputs.now decided.old rows.old result decided.new rows.new }
 {
-    let sets = st.sets;
-    let configs = st.configs;
-    let states = steady.states;
-    let mut energies = [0u64; 8];
-    let mut fuels = [0u64; 8];
-    let mut sums = [0u64; 8];
-    let mut lines = [0u64; 128];
-    fill_tables(sets, steady.on, &mut sums, &mut lines);
-    let walked = steady_walk(
-        st,
-        caps,
-        Stretch { steady, moment },
-        inputs,
-        decided,
-        &mut energies,
-        &mut fuels,
-        rows,
-        &sums,
-        &lines,
-    );
-    let after = walked.moment;
-    let ran = made(states, steady.on, walked.ran as u32, &energies, &fuels);
+    let none = Added { energy: 0, fuel: 0 };
+    let mut added = [none; 8];
+    let walked = steady_walk(st, caps, steady, moment, inputs, decided, &mut added, rows);
+    let ran = made(steady.states, steady.on, walked.ran as u32, &added);
+    let states = command_all(st.sets, ran, mask_called(st.configs, walked.moment.called));
     AfterSeconds {
-        moment: after,
-        states: command_all(sets, ran, mask_called(configs, after.called)),
+        moment: walked.moment,
+        states,
         seconds: walked.ran,
     }
 }

@@ -3,10 +3,10 @@ ghost use Rattle.std.specs.Prelude.{◌≡◌, ◌+◌, length};
 ghost use Rattle.laws.specs.Admitted.{Admitted};
 ghost use Rattle.commitment.specs.Choice.{Rated};
 ghost use Rattle.steady.specs.NextEvent.{NoEvent};
-ghost use Rattle.steady.specs.CurveTable.{Tabled};
 ghost use Rattle.steady.specs.SteadySecond.{Kept, run_at, SteadyStepped};
 
-use crate::steady_counts::count_steady;
+use crate::curve_table::SetTable;
+use crate::steady_counts::{Added, count_steady};
 use flows::amounts::{decide, oldest};
 use flows::meet::meet_load;
 use moments::parts::{Moment, moment_after, row_of};
@@ -15,7 +15,7 @@ use rules::station::Station;
 use steps::step::commit_at;
 
 // What stays the same until the next event: the masks of the sets On and of those called, the capacity and the floor load of the sets
-// On, the sets that are due or in Service, and all states as they were.
+// On, the sets that are due or in Service, all states as they were, and what is read of each set On.
 #[derive(Clone, Copy)]
 pub(crate) struct Steady {
     pub(crate) on: u32,
@@ -24,6 +24,7 @@ pub(crate) struct Steady {
     pub(crate) floor: u64,
     pub(crate) barred: u32,
     pub(crate) states: [SetState; 8],
+    pub(crate) tables: [SetTable; 8],
 }
 
 // Where the steady seconds stand: the record but for its arrays, and how many they are.
@@ -43,33 +44,25 @@ pub(crate) struct AfterSecond {
 pub(crate) fn steady_step(
     st: Station,
     caps: &[u32; 64],
-    steady: Steady,
+    steady: &Steady,
     standing: Standing,
     inputs: Inputs,
     decided: &mut [u32],
-    energies: &mut [u64],
-    fuels: &mut [u64],
-    sums: &[u64; 8],
-    lines: &[u64; 128],
+    added: &mut [Added; 8],
 ) -> AfterSecond
-    requires { Kept st steady × NoEvent st.sets steady.states (standing.ran + 1) × Admitted st (run_at steady standing energies.old fuels.old decided.old) inputs × Rated st.sets st.configs caps.now × (length decided.old ≡ 60) × (length energies.old ≡ 8) × (length fuels.old ≡ 8) × Tabled st.sets steady.on sums.now lines.now }
-    ensures { SteadyStepped st steady standing (run_at steady standing energies.old fuels.old decided.old) inputs result energies.new fuels.new decided.new }
+    requires { Kept st steady.now × NoEvent st.sets steady.now.states (standing.ran + 1) × Admitted st (run_at steady.now standing added.old decided.old) inputs × Rated st.sets st.configs caps.now × (length decided.old ≡ 60) }
+    ensures { SteadyStepped st steady.now standing (run_at steady.now standing added.old decided.old) inputs result added.new decided.new }
 {
     let moment = standing.moment;
-    let sets = st.sets;
-    let on = steady.on;
     let cap = steady.cap;
-    let store = moment.store;
-    let floor = steady.floor;
-    let met = meet_load(st, store, cap, floor, oldest(decided), inputs);
+    let met = meet_load(st, moment.store, cap, steady.floor, oldest(decided), inputs);
     let watts = met.watts;
-    let diesel = watts.diesel;
     decide(st.control.delay, met.decided, decided);
-    count_steady(sets, sums, lines, on, diesel, cap, energies, fuels);
+    count_steady(st.sets, &steady.tables, steady.on, watts.diesel, cap, added);
     let chosen = commit_at(st, caps, steady.barred, moment, watts, inputs.sheddable);
     let call = chosen.call;
     AfterSecond {
         moment: moment_after(moment, call, chosen.held, met.store, watts),
-        row: row_of(moment.done, watts, on, call, met.store),
+        row: row_of(moment.done, watts, steady.on, call, met.store),
     }
 }

@@ -10,7 +10,6 @@ use rules::limits::SECOND_INPUTS;
 use rules::run::SetState;
 use rules::station::Station;
 use steps::step::step;
-use words::arithmetic::lesser;
 
 // One second by its eleven steps.
 fn one_second(
@@ -25,15 +24,12 @@ fn one_second(
     requires { Workable st states moment caps.now inputs.now decided.old rows.old }
     ensures { GoesOn st states moment inputs.now decided.old rows.old result decided.new rows.new }
 {
-    let x = first_inputs(inputs);
-    let stepped = step(st, caps, states, moment, x, decided);
-    let after = stepped.moment;
-    let left = stepped.states;
-    let row = stepped.row;
-    put_row_numbers(row, rows);
+    let stepped = step(st, caps, states, moment, first_inputs(inputs), decided);
+    put_row_numbers(stepped.row, rows);
+    let states = stepped.states;
     AfterSeconds {
-        moment: after,
-        states: left,
+        moment: stepped.moment,
+        states,
         seconds: 1,
     }
 }
@@ -50,9 +46,8 @@ pub(crate) fn stretch_from(
     requires { Workable st states moment caps.now inputs.now decided.old rows.old }
     ensures { GoesOn st states moment inputs.now decided.old rows.old result decided.new rows.new }
 {
-    let configs = st.configs;
-    let called = mask_called(configs, moment.called);
-    let most = lesser(steady_for(st, states, called), inputs.len() / SECOND_INPUTS);
+    let called = mask_called(st.configs, moment.called);
+    let most = steady_for(st, states, called).min(inputs.len() / SECOND_INPUTS);
     if most == 0 {
         return one_second(st, caps, states, moment, inputs, decided, rows);
     }
@@ -60,7 +55,7 @@ pub(crate) fn stretch_from(
     steady_seconds(
         st,
         caps,
-        steady,
+        &steady,
         moment,
         &inputs[..SECOND_INPUTS * most],
         decided,

@@ -8,7 +8,7 @@ returns-in-Off c = simp c.in-Off.is
 
 pub returns-in-Warming : goal.returns-in-Warming
 unfolding counted_down
-returns-in-Warming c = simp (c.left_after.ensures, c.in-Warming.is)
+returns-in-Warming c = simp (c.saturating_sub.ensures, c.in-Warming.is)
 
 pub returns-in-On : goal.returns-in-On
 unfolding counted_down
@@ -16,8 +16,8 @@ returns-in-On c = simp c.in-On.is
 
 pub returns-in-Cooling : goal.returns-in-Cooling
 unfolding counted_down
-returns-in-Cooling c = simp (c.left_after-in-Cooling.ensures, c.in-Cooling.is)
+returns-in-Cooling c = simp (c.saturating_sub-in-Cooling.ensures, c.in-Cooling.is)
 
 pub returns-in-Service : goal.returns-in-Service
 unfolding counted_down
-returns-in-Service c = simp (c.left_after-in-Service.ensures, c.in-Service.is)
+returns-in-Service c = simp (c.saturating_sub-in-Service.ensures, c.in-Service.is)

@@ -9,12 +9,12 @@ use Rattle.steady.proofs.next_event.unmoved_all.Goals as goal
 
 pub loop-i-init : goal.loop-i-init
 unfolding all_to
-loop-i-init c = (omega arith, c.every_on-release.ensures, refl)
+loop-i-init c = (c.every_on-release.ensures, refl)
 
 pub loop-i-preserved : goal.loop-i-preserved
 unfolding state_at
-loop-i-preserved c = (omega arith, c.loop-i.invariant.1, all-turn _ c.loop-i.i _ _ c.loop-i.invariant.2 (rw (c.unmoved-ok.ensures, c.has_set.ensures, c.loop-i.invariant.1)))
+loop-i-preserved c = (c.loop-i.invariant.0, all-turn _ c.loop-i.i _ _ c.loop-i.invariant.1 (rw (c.unmoved-ok.ensures, c.has_set.ensures, c.loop-i.invariant.0)))
 
 pub returns : goal.returns
 unfolding unmoved_all
-returns c = let e : c.loop-i.i ≡ 8 = omega arith in rw e at c.loop-i.invariant.2
+returns c = let e : c.loop-i.i ≡ 8 = omega arith in rw e at c.loop-i.invariant.1

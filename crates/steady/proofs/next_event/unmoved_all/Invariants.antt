@@ -1,5 +1,5 @@
 -- `steady::next_event::unmoved_all` meets its contract. Assumes nothing.
-use Prim.Native.Nat.{ℕ, ◌-◌, ◌≤◌}
+use Prim.Native.Nat.{ℕ}
 use mathlib.Core.Path.{◌≡◌}
 use mathlib.Core.Bool.{Bool}
 use mathlib.Core.List.{List}
@@ -15,7 +15,4 @@ abbrev pub left : List SetState → ℕ → ℕ → Bool
 left states mask i = unmoved (state_at states i).mode (has mask i) (every_on states mask)
 
 abbrev pub invariant-loop-i : goal.invariant-loop-i
-invariant-loop-i l = (l.i ≤ 8) × (l.release ≡ every_on l.states l.mask) × (l.ok ≡ all_to l.i (left l.states l.mask))
-
-abbrev pub decreases-loop-i : goal.decreases-loop-i
-decreases-loop-i l = 8 - l.i
+invariant-loop-i l = (l.release ≡ every_on l.states l.mask) × (l.ok ≡ all_to l.i (left l.states l.mask))

@@ -23,15 +23,12 @@ one_more i sets states least less h k own = record { each = λ j b. go j b (dec_
     go j b (no p) = let e : i ≡ j = omega (arith, p) in rw e at own
 
 pub loop-i-init : goal.loop-i-init
-loop-i-init c = (omega arith, record { each = λ j l. absurd (omega (arith, l)) })
-
-pub loop-i-preserved-then-own-least : goal.loop-i-preserved-then-own-least
-unfolding set_at state_at past_end
-loop-i-preserved-then-own-least c = (omega arith, one_more _ _ _ _ _ c.loop-i.invariant.1 (omega arith) c.until_own_event-own.ensures)
+loop-i-init c = record { each = λ j l. absurd (omega (arith, l)) }
 
 pub loop-i-preserved : goal.loop-i-preserved
 unfolding set_at state_at past_end
-loop-i-preserved c = (omega arith, one_more _ _ _ _ _ c.loop-i.invariant.1 (omega arith) (fewer-lasts _ _ _ _ c.until_own_event-own.ensures (omega arith)))
+loop-i-preserved c =
+    one_more _ _ _ _ _ c.loop-i.invariant (omega (arith, c.min-least.ensures)) (fewer-lasts _ _ _ _ c.until_own_event.ensures (omega (arith, c.min-least.ensures)))
 
 pub returns : goal.returns
-returns c = let e : c.loop-i.i ≡ 8 = omega arith in record { each = λ j l. c.loop-i.invariant.1.each j (omega (arith, l)) }
+returns c = record { each = λ j l. c.loop-i.invariant.each j (omega (arith, l)) }

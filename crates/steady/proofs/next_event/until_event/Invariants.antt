@@ -1,5 +1,5 @@
 -- `steady::next_event::until_event` meets its contract. Assumes nothing.
-use Prim.Native.Nat.{ℕ, ◌-◌, ◌≤◌, ◌<◌}
+use Prim.Native.Nat.{ℕ, ◌<◌}
 use mathlib.Core.List.{List}
 use Rattle.rules.specs.declared.station.GenSet.{GenSet}
 use Rattle.rules.specs.declared.run.SetState.{SetState}
@@ -13,7 +13,4 @@ pub record LastingTo (i : ℕ) (sets : List GenSet) (states : List SetState) (se
   pub each : (j : ℕ) → j < i → NoOwnEvent (set_at sets j) (state_at states j) seconds
 
 abbrev pub invariant-loop-i : goal.invariant-loop-i
-invariant-loop-i l = (l.i ≤ 8) × LastingTo l.i l.sets l.states l.least
-
-abbrev pub decreases-loop-i : goal.decreases-loop-i
-decreases-loop-i l = 8 - l.i
+invariant-loop-i l = LastingTo l.i l.sets l.states l.least

@@ -18,13 +18,13 @@ overflow_mul-count c = record { fits = omega (arith, within c, c.well_formed.1.1
 pub slice_bounds-work_seconds-end : goal.slice_bounds-work_seconds-end
 slice_bounds-work_seconds-end c = sym (length-take-le _ _ (within c))
 
-pub work_seconds-after-requires : goal.work_seconds-after-requires
-work_seconds-after-requires c =
+pub work_seconds-requires : goal.work_seconds-requires
+work_seconds-requires c =
     let a = c.args in
     let counts = c.judge_seconds-judged.ensures.counts in
-    (all-admits a.st a.run a.inputs.now a.rows.now _ counts, omega (arith, length-take-le (3 * c.judge_seconds-judged.result.seconds) a.inputs.now (within (goal.at.work_seconds-after-requires c).After-judge_seconds-judged), each-length (take (3 * c.judge_seconds-judged.result.seconds) a.inputs.now)), places-in a.st a.run a.inputs.now a.rows.now _ counts)
+    (all-admits a.st a.run a.inputs.now a.rows.now _ counts, omega (arith, length-take-le (3 * c.judge_seconds-judged.result.seconds) a.inputs.now (within (goal.at.work_seconds-requires c).After-judge_seconds-judged), each-length (take (3 * c.judge_seconds-judged.result.seconds) a.inputs.now)), places-in a.st a.run a.inputs.now a.rows.now _ counts)
 
 pub returns : goal.returns
 returns c =
     let a = c.args in
-    all-worked a.st a.run a.inputs.now a.rows.now _ c.judge_seconds-judged.ensures.counts _ _ c.work_seconds-after.ensures refl c.judge_seconds-judged.ensures.ends
+    all-worked a.st a.run a.inputs.now a.rows.now _ c.judge_seconds-judged.ensures.counts _ _ c.work_seconds.ensures refl c.judge_seconds-judged.ensures.ends

@@ -1,14 +1,12 @@
 -- `steady::steady_counts::count_steady` meets its contract. Assumes nothing.
 use Prim.Native.Nat.{◌-◌}
 use Rattle.words.proofs.Walk.{Place}
-use Rattle.steady.specs.Steady.{Addable}
-use Rattle.steady.specs.CurveTable.{Tabled}
 use Rattle.steady.proofs.Adding.{Adding}
 use Rattle.steady.proofs.steady_counts.count_steady.Given as goal
 
 abbrev pub invariant-loop-place : goal.invariant-loop-place
 invariant-loop-place l =
-    Addable l.sets l.mask l.diesel l.cap l.initial.energies l.initial.fuels × Tabled l.sets l.mask l.sums l.lines × Place l.mask l.place × Adding l.sets l.mask l.diesel l.cap l.initial.energies l.initial.fuels l.place l.given l.energies l.fuels
+    Place l.mask l.place × Adding l.fn.sets l.mask l.diesel l.cap l.initial.added l.place l.given l.added
 
 abbrev pub decreases-loop-place : goal.decreases-loop-place
 decreases-loop-place l = 8 - l.place

@@ -1,11 +1,7 @@
 -- `steady::steady_counts::made` meets its contract. Assumes nothing.
-use Prim.Native.Nat.{◌-◌}
 use Rattle.modes.proofs.Filled.{Filling}
 use Rattle.steady.specs.Steady.{steady_at, Makeable}
 use Rattle.steady.proofs.steady_counts.made.Given as goal
 
 abbrev pub invariant-loop-i : goal.invariant-loop-i
-invariant-loop-i l = Makeable l.initial.out l.mask l.seconds l.energies l.fuels × Filling (steady_at l.initial.out l.mask l.seconds l.energies l.fuels) l.initial.out 8 l.i l.out
-
-abbrev pub decreases-loop-i : goal.decreases-loop-i
-decreases-loop-i l = 8 - l.i
+invariant-loop-i l = Makeable l.initial.out l.mask l.seconds l.added × Filling (steady_at l.initial.out l.mask l.seconds l.added) l.initial.out 8 l.i l.out

@@ -11,11 +11,11 @@ tables c = record { sets-length = search rules; configs-length = search rules }
 
 pub count_steady-requires : goal.count_steady-requires
 count_steady-requires c =
-    (addable c.args.st (tables (goal.at.count_steady-requires c).Start) c.args.steady c.args.standing c.requires.0 c.requires.1 c.args.energies.now c.args.fuels.now c.args.decided.now c.args.inputs c.requires.2 c.args.caps.now c.requires.3 c.requires.4 _ c.oldest.ensures _ c.meet_load-met.ensures c.requires.5 c.requires.6, c.requires.7)
+    (addable c.args.st (tables (goal.at.count_steady-requires c).Start) c.args.steady.now c.args.standing c.requires.0 c.requires.1 c.args.added.now c.args.decided.now c.args.inputs c.requires.2 c.args.caps.now c.requires.3 c.requires.4 _ c.oldest.ensures _ c.meet_load-met.ensures, c.requires.0.is-tabled)
 
 pub shape_of-decided : goal.shape_of-decided
 shape_of-decided c = c.decide.auto.amounts
 
 pub returns : goal.returns
 returns c =
-    steady-stepped c.args.st (tables (goal.at.returns c).Start) c.args.steady c.args.standing c.requires.0 c.requires.1 c.args.energies.now c.args.fuels.now c.args.decided.now c.args.inputs c.requires.2 c.args.caps.now c.requires.3 c.requires.4 _ c.oldest.ensures _ c.meet_load-met.ensures _ c.decide.ensures _ _ c.count_steady.ensures.0 c.count_steady.ensures.1 _ c.commit_at-chosen.ensures _ c.moment_after.ensures c.row_of.ensures
+    steady-stepped c.args.st (tables (goal.at.returns c).Start) c.args.steady.now c.args.standing c.requires.0 c.requires.1 c.args.added.now c.args.decided.now c.args.inputs c.requires.2 c.args.caps.now c.requires.3 c.requires.4 _ c.oldest.ensures _ c.meet_load-met.ensures _ c.decide.ensures _ c.count_steady.ensures _ c.commit_at-chosen.ensures _ c.moment_after.ensures c.row_of.ensures

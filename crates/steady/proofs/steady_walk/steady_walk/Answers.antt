@@ -24,6 +24,7 @@ use Rattle.dispatch.specs.Working.{Admits, Works}
 use Rattle.admission.proofs.Admitting.{rest_of}
 use Rattle.admission.proofs.Each.{each_at, each-length}
 use Rattle.dispatch.proofs.Working.{works-start, works-length, works-step, next-admitted, first-admitted, back_is}
+use Rattle.steady.specs.declared.steady_counts.Added.{Added}
 use Rattle.steady.specs.declared.steady_step.Standing.{Standing}
 use Rattle.steady.specs.NextEvent.{NoEvent}
 use Rattle.steady.specs.Steady.{since_steady}
@@ -60,13 +61,13 @@ module _ (c : After-put_row_numbers) where
 
   -- the record where the walk began
   abbrev began : Run
-  began = run_of c.args.from.moment (since_steady c.args.from.steady.states c.args.from.steady.on 0 c.args.energies.now c.args.fuels.now) c.args.decided.now
+  began = run_of c.args.from (since_steady c.args.steady.now.states c.args.steady.now.on 0 c.args.added.now) c.args.decided.now
 
   abbrev standing : Standing
   standing = record { moment = c.loop-ran.moment; ran = ran }
 
   abbrev r : Run
-  r = run_at c.args.from.steady standing c.loop-ran.energies c.loop-ran.fuels c.loop-ran.decided
+  r = run_at c.args.steady.now standing c.loop-ran.added c.loop-ran.decided
 
   abbrev now : Inputs
   now = x c.args.inputs.now ran c.loop-ran-test.true
@@ -74,20 +75,17 @@ module _ (c : After-put_row_numbers) where
   has-place : 13 ≤ length (drop (13 * ran) c.loop-ran.rows)
   has-place =
       let t = c.loop-ran-test.true in
-      omega (arith, length-drop (13 * ran) c.loop-ran.rows, c.loop-ran.invariant.6, c.requires.0.room, each-length c.args.inputs.now)
+      omega (arith, length-drop (13 * ran) c.loop-ran.rows, c.loop-ran.invariant.3, c.requires.0.room, each-length c.args.inputs.now)
 
-  abbrev energies' : List ℕ
-  energies' = c.steady_step-gone.new.energies
-
-  abbrev fuels' : List ℕ
-  fuels' = c.steady_step-gone.new.fuels
+  abbrev added' : List Added
+  added' = c.steady_step-gone.new.added
 
   abbrev decided' : List ℕ
   decided' = c.steady_step-gone.new.decided
 
-  taken : SteadyStepped c.args.st c.args.from.steady standing r now c.steady_step-gone.result energies' fuels' decided'
+  taken : SteadyStepped c.args.st c.args.steady.now standing r now c.steady_step-gone.result added' decided'
   taken =
-      subst (λ (y : Inputs). SteadyStepped c.args.st c.args.from.steady standing r y c.steady_step-gone.result energies' fuels' decided')
+      subst (λ (y : Inputs). SteadyStepped c.args.st c.args.steady.now standing r y c.steady_step-gone.result added' decided')
       (asked c.args.inputs.now ran c.loop-ran-test.true c.first_inputs-x.ensures) c.steady_step-gone.ensures
 
   abbrev rows' : List ℕ
@@ -101,7 +99,7 @@ module _ (c : After-put_row_numbers) where
       ∙ ap (λ (k : Row). row_first k (drop (13 * ran) c.loop-ran.rows)) taken.row)
 
   abbrev after : Run
-  after = run_of c.steady_step-gone.result.moment (commanded_since c.args.st c.args.from.steady (ran + 1) energies' fuels' c.steady_step-gone.result.moment.called) decided'
+  after = run_of c.steady_step-gone.result.moment (commanded_since c.args.st c.args.steady.now (ran + 1) added' c.steady_step-gone.result.moment.called) decided'
 
   worked : Works c.args.st began (inputs_each c.args.inputs.now) c.args.rows.now (ran + 1) after rows'
   worked =
@@ -120,14 +118,14 @@ module _ (c : After-put_row_numbers) where
       ap (possible c.args.st) taken.after
       ∙ possible-after c.args.st tables r now (admitted c.args.inputs.now ran c.loop-ran-test.true c.loop-ran.invariant.0.admits)
 
-  walks : Walks c.args.st c.args.from.steady began (inputs_each c.args.inputs.now) c.args.rows.now c.steady_step-gone.result.moment (ran + 1) energies' fuels' decided' rows'
+  walks : Walks c.args.st c.args.steady.now began (inputs_each c.args.inputs.now) c.args.rows.now c.steady_step-gone.result.moment (ran + 1) added' decided' rows'
   walks = record { works = worked; some = omega arith; stays-possible = stays-possible }
 
 pub loop-ran-init : goal.loop-ran-init
 loop-ran-init c =
     let pre = c.requires.0 in
     let a = c.args in
-    (works-start a.st _ _ a.rows.now pre.admits, pre.called, omega arith, pre.sixty, pre.energies-length, pre.fuels-length, refl, (first-admitted pre.admits pre.some (record { load = 0; solar = 0; sheddable = 0 })).record-possible)
+    (works-start a.st _ _ a.rows.now pre.admits, pre.called, pre.sixty, refl, (first-admitted pre.admits pre.some (record { load = 0; solar = 0; sheddable = 0 })).record-possible)
 
 pub steady_step-gone-requires : goal.steady_step-gone-requires
 steady_step-gone-requires c =
@@ -135,12 +133,12 @@ steady_step-gone-requires c =
     let inv = c.loop-ran.invariant in
     let t = c.loop-ran-test.true in
     let a = c.args in
-    let r : Run = run_at a.from.steady (record { moment = c.loop-ran.moment; ran = c.loop-ran.ran }) c.loop-ran.energies c.loop-ran.fuels c.loop-ran.decided in
-    let calm : NoEvent a.st.sets a.from.steady.states (c.loop-ran.ran + 1) = fewer _ _ _ _ pre.0.no-event (omega (arith, each-length a.inputs.now)) in
-    (pre.0.kept, calm, subst (Admitted a.st r) (sym (asked a.inputs.now c.loop-ran.ran t c.first_inputs-x.ensures)) (admitted a.inputs.now c.loop-ran.ran t inv.0.admits), pre.1, inv.3, inv.4, inv.5, pre.2)
+    let r : Run = run_at a.steady.now (record { moment = c.loop-ran.moment; ran = c.loop-ran.ran }) c.loop-ran.added c.loop-ran.decided in
+    let calm : NoEvent a.st.sets a.steady.now.states (c.loop-ran.ran + 1) = fewer _ _ _ _ pre.0.no-event (omega (arith, each-length a.inputs.now)) in
+    (pre.0.kept, calm, subst (Admitted a.st r) (sym (asked a.inputs.now c.loop-ran.ran t c.first_inputs-x.ensures)) (admitted a.inputs.now c.loop-ran.ran t inv.0.admits), pre.1, inv.2)
 
-pub returns-then-mask_called-kept : goal.returns-then-mask_called-kept
-returns-then-mask_called-kept c = walks (goal.at.returns-then-mask_called-kept c).After-put_row_numbers
+pub returns-then-mask_called-steady : goal.returns-then-mask_called-steady
+returns-then-mask_called-steady c = walks (goal.at.returns-then-mask_called-steady c).After-put_row_numbers
 
 pub loop-ran-preserved : goal.loop-ran-preserved
 loop-ran-preserved c =
@@ -148,14 +146,11 @@ loop-ran-preserved c =
     let a = c.args in
     let pre = c.requires.0 in
     let t = c.loop-ran-test.true in
-    let mask : mask_called a.st.configs c.steady_step-gone.result.moment.called ≡ a.from.steady.called = sym c.mask_called.ensures.value ∙ (omega (arith, c.if-mask_called-kept.false)) in
-    let same = stays-steady a.st a.from.steady pre.kept.is-on pre.unmoved (c.loop-ran.ran + 1) (energies' put) (fuels' put) _ mask in
+    let mask : mask_called a.st.configs c.steady_step-gone.result.moment.called ≡ a.steady.now.called = sym c.mask_called.ensures.value ∙ (omega (arith, c.if-mask_called-steady.false)) in
+    let same = stays-steady a.st a.steady.now pre.kept.is-on pre.unmoved (c.loop-ran.ran + 1) (added' put) _ mask in
     let run : List SetState → Run = λ l. run_of c.steady_step-gone.result.moment l (decided' put) in (
       subst (λ (l : List SetState). Works a.st (began put) (inputs_each a.inputs.now) a.rows.now (c.loop-ran.ran + 1) (run l) (rows' put)) same (worked put),
       mask,
-      omega arith,
-      search rules,
-      search rules,
       search rules,
       rows-size put,
       subst (λ (l : List SetState). possible a.st (run l) ≡ true) same (stays-possible put),
@@ -165,11 +160,17 @@ pub returns : goal.returns
 returns c =
     let a = c.args in
     let pre = c.requires.0 in
-    let same = sym (stays-steady a.st a.from.steady pre.kept.is-on pre.unmoved c.loop-ran.ran c.loop-ran.energies c.loop-ran.fuels _ c.loop-ran.invariant.1) in
-    let began : Run = run_of a.from.moment (since_steady a.from.steady.states a.from.steady.on 0 a.energies.now a.fuels.now) a.decided.now in
+    let ran = c.loop-ran.ran in
+    let same = sym (stays-steady a.st a.steady.now pre.kept.is-on pre.unmoved ran c.loop-ran.added _ c.loop-ran.invariant.1) in
+    let began : Run = run_of a.from (since_steady a.steady.now.states a.steady.now.on 0 a.added.now) a.decided.now in
     let run : List SetState → Run = λ l. run_of c.loop-ran.moment l c.loop-ran.decided in
+    let t = c.loop-ran-test.false in
+    let all : length a.inputs.now / 3 ≡ ran = omega arith in
+    let walks : Walks a.st a.steady.now began (inputs_each a.inputs.now) a.rows.now c.loop-ran.moment ran c.loop-ran.added c.loop-ran.decided c.loop-ran.rows =
     record {
-      works = subst (λ (l : List SetState). Works a.st began (inputs_each a.inputs.now) a.rows.now c.loop-ran.ran (run l) c.loop-ran.rows) same c.loop-ran.invariant.0;
-      some = let t = c.loop-ran-test.false in omega (arith, pre.some, each-length a.inputs.now);
-      stays-possible = subst (λ (l : List SetState). possible a.st (run l) ≡ true) same c.loop-ran.invariant.7;
+      works = subst (λ (l : List SetState). Works a.st began (inputs_each a.inputs.now) a.rows.now ran (run l) c.loop-ran.rows) same c.loop-ran.invariant.0;
+      some = omega (arith, pre.some, each-length a.inputs.now);
+      stays-possible = subst (λ (l : List SetState). possible a.st (run l) ≡ true) same c.loop-ran.invariant.4;
     }
+    in
+    rw all walks

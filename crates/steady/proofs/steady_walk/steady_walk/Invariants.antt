@@ -1,6 +1,5 @@
 -- `steady::steady_walk::steady_walk` meets its contract. Assumes nothing.
 -- ---- a second of the walk
-use Prim.Native.Nat.{◌-◌, ◌≤◌}
 use mathlib.Core.Path.{◌≡◌}
 use mathlib.Core.Bool.{true}
 use lib.ListN.{length}
@@ -14,14 +13,8 @@ use Rattle.steady.proofs.steady_walk.steady_walk.Given as goal
 
 abbrev pub invariant-loop-ran : goal.invariant-loop-ran
 invariant-loop-ran l =
-    Works l.st (run_of l.initial.moment (since_steady l.kept.states l.kept.on 0 l.initial.energies l.initial.fuels) l.initial.decided) (inputs_each l.inputs) l.initial.rows l.ran (run_of l.moment (since_steady l.kept.states l.kept.on l.ran l.energies l.fuels) l.decided) l.rows
-    × (mask_called l.st.configs l.moment.called ≡ l.kept.called)
-    × (l.ran ≤ l.count)
+    Works l.st (run_of l.initial.moment (since_steady l.steady.states l.steady.on 0 l.initial.added) l.initial.decided) (inputs_each l.inputs) l.initial.rows l.ran (run_of l.moment (since_steady l.steady.states l.steady.on l.ran l.added) l.decided) l.rows
+    × (mask_called l.st.configs l.moment.called ≡ l.steady.called)
     × (length l.decided ≡ 60)
-    × (length l.energies ≡ 8)
-    × (length l.fuels ≡ 8)
     × (length l.rows ≡ length l.initial.rows)
-    × (possible l.st (run_of l.moment (since_steady l.kept.states l.kept.on l.ran l.energies l.fuels) l.decided) ≡ true)
-
-abbrev pub decreases-loop-ran : goal.decreases-loop-ran
-decreases-loop-ran l = l.count - l.ran
+    × (possible l.st (run_of l.moment (since_steady l.steady.states l.steady.on l.ran l.added) l.decided) ≡ true)

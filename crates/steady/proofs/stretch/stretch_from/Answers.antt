@@ -22,12 +22,12 @@ use Rattle.steady.proofs.stretch.stretch_from.Goals.{After-kept-steady}
 
 module _ (c : After-kept-steady) where
   abbrev most : ℕ
-  most = c.lesser-most.result
+  most = c.min-most.result
 
   -- at least one second is steady, and no more are asked
   few : (0 < most) × (most ≤ c.steady_for.result) × (3 * most ≤ length c.args.inputs.now)
   few =
-      let e = c.lesser-most.ensures in
+      let e = c.min-most.ensures in
       let some = c.if-most-eq0.false in
       (omega arith, omega arith, omega arith)
 
