@@ -20,32 +20,28 @@ pub struct Moment {
 pub fn moment_of(run: Run) -> Moment
     ensures { run_of result run.sets run.decided ≡ run }
 {
-    let setpoint = run.setpoint;
-    let totals = run.totals;
     Moment {
         done: run.done,
         since: run.since,
         called: run.called,
         store: run.store,
-        setpoint,
-        totals,
+        setpoint: run.setpoint,
+        totals: run.totals,
     }
 }
 
 pub fn whole(moment: Moment, states: [SetState; 8], decided: [u32; 60]) -> Run
     ensures { result ≡ run_of moment states decided }
 {
-    let setpoint = moment.setpoint;
-    let totals = moment.totals;
     Run {
         done: moment.done,
         since: moment.since,
         called: moment.called,
         store: moment.store,
-        setpoint,
+        setpoint: moment.setpoint,
         sets: states,
         decided,
-        totals,
+        totals: moment.totals,
     }
 }
 
@@ -53,16 +49,13 @@ pub fn whole(moment: Moment, states: [SetState; 8], decided: [u32; 60]) -> Run
 pub fn moment_after(moment: Moment, call: usize, held: f64, store: u64, watts: Watts) -> Moment
     ensures { result ≡ moment_after moment call held store watts }
 {
-    let totals = moment.totals;
-    let done = moment.done;
-    let sums = plus(totals, watts);
     Moment {
-        done: std::num::wrapping_add_u32(done, 1),
-        since: since_after(call, moment.called, moment.since, done),
+        done: moment.done.wrapping_add(1),
+        since: since_after(call, moment.called, moment.since, moment.done),
         called: call,
         store,
         setpoint: Some(held),
-        totals: sums,
+        totals: plus(moment.totals, watts),
     }
 }
 
@@ -74,7 +67,7 @@ pub fn row_of(second: u32, watts: Watts, on: u32, call: usize, store: u64) -> Ro
         second,
         watts,
         on,
-        sets: u32::count_ones(on),
+        sets: on.count_ones(),
         call,
         store,
     }

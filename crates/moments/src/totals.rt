@@ -9,7 +9,7 @@ use rules::run::{Totals, Watts};
 fn more(total: u64, watts: u32) -> u64
     ensures { result ≡ in64 (total + watts) }
 {
-    std::num::wrapping_add_u64(total, watts as u64)
+    total.wrapping_add(watts as u64)
 }
 
 pub(crate) fn plus(totals: Totals, watts: Watts) -> Totals

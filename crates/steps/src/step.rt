@@ -35,17 +35,14 @@ pub fn commit_at(
 ) -> Committed
     ensures { CommittedBy st caps.now barred moment.setpoint moment.called moment.since moment.done watts sheddable result }
 {
-    let setpoint = moment.setpoint;
-    let called = moment.called;
-    let done = moment.done;
     commit(
         st,
         caps,
         barred,
-        setpoint,
-        called,
+        moment.setpoint,
+        moment.called,
         moment.since,
-        done,
+        moment.done,
         watts,
         sheddable,
     )
@@ -62,10 +59,9 @@ pub fn step(
 ) -> Stepped
     ensures { SteppedBy st caps.now (run_of moment before decided.old) inputs result decided.new }
 {
-    let sets = st.sets;
-    let states = tick_all(sets, before);
+    let states = tick_all(st.sets, before);
     let on = on_mask(states);
-    let cap = capacity_fitting(sets, on);
+    let cap = capacity_fitting(st.sets, on);
     let met = meet_load(
         st,
         moment.store,
@@ -76,15 +72,13 @@ pub fn step(
     );
     let watts = met.watts;
     decide(st.control.delay, met.decided, decided);
-    let ran = count_all(sets, states, on, watts.diesel);
-    let done = moment.done;
-    let barred = barred_mask(sets, ran);
+    let ran = count_all(st.sets, states, on, watts.diesel);
+    let barred = barred_mask(st.sets, ran);
     let chosen = commit_at(st, caps, barred, moment, watts, inputs.sheddable);
     let call = chosen.call;
-    let configs = st.configs;
     Stepped {
         moment: moment_after(moment, call, chosen.held, met.store, watts),
-        states: command_all(sets, ran, mask_called(configs, call)),
-        row: row_of(done, watts, on, call, met.store),
+        states: command_all(st.sets, ran, mask_called(st.configs, call)),
+        row: row_of(moment.done, watts, on, call, met.store),
     }
 }
