@@ -1,20 +1,20 @@
 -- The usual row: digits and powers taken from a place on, and the four cells of a line. Assumes nothing.
-use Rattle.std.specs.Prelude.{if◌then◌else◌}
-use Rattle.std.proofs.Common.{◌≡◌, ℕ, zero, suc, ◌+◌, ◌-◌, ◌*◌, ◌%◌, ◌^◌, ◌<◌, ◌≤◌, Bool, true, false, ◌&&◌, eqb, ltb, leb, List, [], ◌∷◌, ◌++◌, length, get_or, take, drop, sym, refl, ap, ◌∙◌, subst, append_assoc, mod-eq_of_lt, add-one, arith, length-append, length-drop, take-append-drop, length-take, get_or-drop, drop-cons, take-suc, drop-drop, ltb-true, eq-eqb, le-leb, leb-true}
+use Rattle.std.specs.Prelude.{if◌then◌else◌, Some, None, Option}
+use Rattle.std.proofs.Common.{◌≡◌, ℕ, zero, suc, ◌+◌, ◌-◌, ◌*◌, ◌%◌, ◌^◌, ◌<◌, ◌≤◌, Bool, true, false, ◌&&◌, eqb, ltb, leb, List, [], ◌∷◌, ◌++◌, length, get_or, take, drop, sym, refl, ap, ◌∙◌, subst, append_assoc, add-one, arith, length-append, length-drop, take-append-drop, length-take, get_or-drop, drop-cons, take-suc, drop-drop, ltb-true, eq-eqb, le-leb, leb-true}
 use lib.Seq.{take-append_seam}
 use Rattle.byte_search.specs.Bytes.{index_after, index_of}
 use Rattle.rules.specs.declared.samples.Sample.{Sample}
-use Rattle.rules.specs.Numbers.{every, tab}
+use Rattle.rules.specs.Numbers.{tab}
 use Rattle.rules.specs.Bytes.{LF, comma, point, digit0, is_digit, all_digits, digits, value_from, value, in_front, parts}
 use Rattle.rules.specs.Lines.{ended}
 use Rattle.rules.specs.Answers.{Answer, accepted, need, ◌>>=◌, ◌>>◌}
 use Rattle.rules.specs.SampleFile.{sample_sheet, limited, time_cell, power_form, power_value, power_cell, cell, value_under, sample_of}
 use Rattle.rules.proofs.Tests.{both, and-true, fact-within, every_append}
 use Rattle.sheet_headings.specs.declared.headings.Columns.{Columns}
-use Rattle.usual_rows.specs.declared.usual.DigitRun.{DigitRun}
+use Rattle.usual_rows.specs.declared.usual.NumberRead.{NumberRead}
 use Rattle.sheet.specs.declared.rows.Powers.{Powers}
 use Rattle.sheet.specs.Rows.{row_in, row_of_values, row_of_cells}
-use Rattle.usual_rows.specs.declared.usual.Usual.{Usual}
+use Rattle.usual_rows.specs.declared.usual.UsualRow.{UsualRow}
 use Rattle.usual_rows.specs.Usual.{Part, DigitsTaken, CellPart, CellTaken, TimeTaken, PowerTaken, EndTaken, PowersNamed, UsualValues, UsualOf}
 use Rattle.sheet_headings.specs.Headings.{columns_of}
 use Rattle.sheet_headings.proofs.PartsAt.{part-last}
@@ -195,7 +195,7 @@ taking-below s at most before i number g m b h =
     let e : 9 - most + length (up_to s at i) ≤ 8 = omega (arith, n, g.from) in
     rw g.is (below-most (9 - most + length (up_to s at i)) 8 (value_from before (up_to s at i)) e (from-below (up_to s at i) (9 - most) before b g.all))
 
-pub taken-below : (s : List ℕ) (at most before : ℕ) (r : DigitRun) (n m : ℕ) → (t : DigitsTaken s at most before r) → before < 10 ^ n → n + length t.taken ≤ m → r.number < 10 ^ m
+pub taken-below : (s : List ℕ) (at most before : ℕ) (r : NumberRead) (n m : ℕ) → (t : DigitsTaken s at most before r) → before < 10 ^ n → n + length t.taken ≤ m → r.number < 10 ^ m
 taken-below s at most before r n m t b h = rw t.number (below-most (n + length t.taken) m (value_from before t.taken) h (from-below t.taken n before b t.all))
 
 pub named : (second third fourth : ℕ) (columns : Columns) → columns ≡ record { second = second; third = third; fourth = fourth }
@@ -238,37 +238,31 @@ part-taken s at end part p =
     let n : end - at ≡ length part = omega (arith, p.size) in
     ap (λ (k : ℕ). take k (drop at s)) n ∙ ap (λ (l : List ℕ). take (length part) l) p.is ∙ take-append_seam part (drop end s)
 
-part_of : (rule : ℕ → ℕ → List ℕ → Answer ℕ) (most : ℕ) (s : List ℕ) (at end : ℕ) (cell : List ℕ) (number : ℕ) → Part s at end cell → length cell ≤ most → Least 46 cell
-    → (0 < length cell → (line limit : ℕ) → number ≤ limit → rule line limit cell ≡ accepted number) → CellPart rule most s at (take (end - at) (drop at s)) number
-part_of rule most s at end cell number p few clean value =
-    let here : CellPart rule most s at cell number = record { part = subst (λ (e : ℕ). Part s at e cell) (sym p.size) p; few = few; clean = clean; value = value } in
+part_of : (rule : ℕ → ℕ → List ℕ → Answer ℕ) (most : ℕ) (s : List ℕ) (at end : ℕ) (cell : List ℕ) (number : ℕ) → Part s at end cell → 0 < length cell → length cell ≤ most → Least 46 cell
+    → ((line limit : ℕ) → number ≤ limit → rule line limit cell ≡ accepted number) → CellPart rule most s at (take (end - at) (drop at s)) number
+part_of rule most s at end cell number p some few clean value =
+    let here : CellPart rule most s at cell number = record { part = subst (λ (e : ℕ). Part s at e cell) (sym p.size) p; some = some; few = few; clean = clean; value = value } in
     subst (λ (c : List ℕ). CellPart rule most s at c number) (sym (part-taken s at end cell p)) here
 
-pub blank_part : (rule : ℕ → ℕ → List ℕ → Answer ℕ) (most : ℕ) (s : List ℕ) (at number : ℕ) → CellPart rule most s at (take (at - at) (drop at s)) number
-unfolding every
-blank_part rule most s at number =
-    let here : Part s at at [] = record { is = refl; size = omega arith } in
-    let few : length {A = ℕ} [] ≤ most = omega arith in
-    part_of rule most s at at [] number here few refl (λ h. absurd (omega (arith, h)))
-
--- a cell that is not blank, within its limit
-pub cell-taken : (rule : ℕ → ℕ → List ℕ → Answer ℕ) (most limit : ℕ) (s : List ℕ) (at : ℕ) (cell : List ℕ) (number : ℕ) → CellPart rule most s at cell number → (length cell ≡ 0 → ⊥) → number ≤ limit
+-- such a cell, within its limit
+pub cell-taken : (rule : ℕ → ℕ → List ℕ → Answer ℕ) (most limit : ℕ) (s : List ℕ) (at : ℕ) (cell : List ℕ) (number : ℕ) → CellPart rule most s at cell number → number ≤ limit
     → CellTaken rule most limit s at (at + length cell) number
-cell-taken rule most limit s at cell number p some h = record { cell = cell; part = p.part; few = p.few; clean = p.clean; value = λ line. p.value (omega (arith, some)) line limit h }
+cell-taken rule most limit s at cell number p h = record { cell = cell; part = p.part; few = p.few; clean = p.clean; value = λ line. p.value line limit h }
 
-module _ (s : List ℕ) (at : ℕ) (r : DigitRun) (t : DigitsTaken s at 6 0 r) where
+module _ (s : List ℕ) (at : ℕ) (r : NumberRead) (t : DigitsTaken s at 6 0 r) where
   pub whole_below : r.number < 10 ^ 6
   whole_below = let z : 0 + length t.taken ≤ 6 = omega (arith, t.few) in taken-below s at 6 0 r 0 6 t (omega arith) z
 
   pub whole-end : r.end ≤ at + 6
   whole-end = omega (arith, t.few, t.part.size)
 
-  pub whole_part : CellPart power_cell 10 s at (take (r.end - at) (drop at s)) (r.number * 1000)
-  whole_part =
+  pub whole_part : (r.end ≡ at → ⊥) → CellPart power_cell 10 s at (take (r.end - at) (drop at s)) (r.number * 1000)
+  whole_part some =
+      let h : 0 < length t.taken = some-taken at r.end (length t.taken) t.part.size some in
       let few : length t.taken ≤ 10 = omega (arith, t.few) in
-      part_of power_cell 10 s at r.end t.taken (r.number * 1000) t.part few (digits-clean t.taken t.all) (λ h line limit l. whole-power line limit t.taken r.number h t.few t.all t.number l)
+      part_of power_cell 10 s at r.end t.taken (r.number * 1000) t.part h few (digits-clean t.taken t.all) (λ line limit l. whole-power line limit t.taken r.number h t.few t.all t.number l)
 
-  module _ (q : DigitRun) (f : DigitsTaken s (r.end + 1) 3 r.number q) (worth : ℕ) (w : worth ≡ 10 ^ (3 - (q.end - (r.end + 1)))) where
+  module _ (q : NumberRead) (f : DigitsTaken s (r.end + 1) 3 r.number q) (worth : ℕ) (w : worth ≡ 10 ^ (3 - (q.end - (r.end + 1)))) where
     decimals : q.end - (r.end + 1) ≡ length f.taken
     decimals = omega (arith, f.part.size)
 
@@ -285,11 +279,13 @@ module _ (s : List ℕ) (at : ℕ) (r : DigitRun) (t : DigitsTaken s at 6 0 r) w
         let same = ap (λ (n : ℕ). q.number * n) worth-is in
         let few : length (t.taken ++ point ∷ f.taken) ≤ 10 = omega (arith, length-append t.taken (point ∷ f.taken), t.few, f.few) in
         let clean = every_append (λ x. leb 46 x) t.taken (point ∷ f.taken) (digits-clean t.taken t.all) (least-one 46 point f.taken (omega arith) (digits-clean f.taken f.all)) in
-        part_of power_cell 10 s at q.end (t.taken ++ point ∷ f.taken) (q.number * worth) (part_then s at r.end q.end point t.taken f.taken t.part inside is f.part) few clean (λ _ line limit l.
+        part_of power_cell 10 s at q.end (t.taken ++ point ∷ f.taken) (q.number * worth) (part_then s at r.end q.end point t.taken f.taken t.part inside is f.part) (omega (arith, length-append t.taken (point ∷ f.taken), h)) few clean (λ line limit l.
         decimal-power line limit t.taken f.taken r.number q.number h t.few t.all t.number k f.few f.all f.number (subst (λ (n : ℕ). n ≤ limit) same l) ∙ ap (λ (n : ℕ). accepted n) (sym same))
 
-pub time-part : (s : List ℕ) (at : ℕ) (r : DigitRun) → DigitsTaken s at 9 0 r → CellPart time_cell 9 s at (take (r.end - at) (drop at s)) r.number
-time-part s at r t = part_of time_cell 9 s at r.end t.taken r.number t.part t.few (digits-clean t.taken t.all) (λ h line limit l. time-value line limit t.taken r.number h t.few t.all t.number l)
+pub time-part : (s : List ℕ) (at : ℕ) (r : NumberRead) → DigitsTaken s at 9 0 r → (r.end ≡ at → ⊥) → CellPart time_cell 9 s at (take (r.end - at) (drop at s)) r.number
+time-part s at r t some =
+    let h : 0 < length t.taken = some-taken at r.end (length t.taken) t.part.size some in
+    part_of time_cell 9 s at r.end t.taken r.number t.part h t.few (digits-clean t.taken t.all) (λ line limit l. time-value line limit t.taken r.number h t.few t.all t.number l)
 
 -- ---- the whole line
 
@@ -298,9 +294,11 @@ cell-end rule most limit s at end number t = omega (arith, t.few, t.part.size)
 
 pub usual-line : (columns : Columns) (s : List ℕ) (at e₀ e₁ e₂ e₃ seconds : ℕ) (powers : Powers) (next : ℕ) → PowersNamed columns → at + 44 ≤ length s
     → TimeTaken s at e₀ seconds → PowerTaken s e₀ e₁ powers.second → PowerTaken s e₁ e₂ powers.third → PowerTaken s e₂ e₃ powers.fourth → EndTaken s e₃ next
-    → (r : Usual) → UsualValues columns seconds powers next r → UsualOf columns s at r
-usual-line columns s at e₀ e₁ e₂ e₃ seconds powers next named room a b c d e Usual.Other u = tt
-usual-line columns s at e₀ e₁ e₂ e₃ seconds powers next named room a b c d e (Usual.Row x n) u =
+    → (r : Option UsualRow) → UsualValues columns seconds powers next r → UsualOf columns s at r
+usual-line columns s at e₀ e₁ e₂ e₃ seconds powers next named room a b c d e None u = tt
+usual-line columns s at e₀ e₁ e₂ e₃ seconds powers next named room a b c d e (Some r) u =
+    let x = r.sample in
+    let n = r.next in
     let first-end = cell-end time_cell 9 316223999 s at e₀ seconds a in
     let second-end = cell-end power_cell 10 50000000 s (e₀ + 1) e₁ powers.second b.1 in
     let third-end = cell-end power_cell 10 50000000 s (e₁ + 1) e₂ powers.third c.1 in
@@ -325,16 +323,11 @@ usual-line columns s at e₀ e₁ e₂ e₃ seconds powers next named room a b c
     }
 
 -- the difference of a byte and the digit 0, where it wraps below zero
-pub digit-of : (byte digit : ℕ) → (digit + 48) % 2 ^ 32 ≡ byte → digit ≤ 9 → (48 ≤ byte) × (byte ≤ 57) × (byte - 48 ≡ digit)
-digit-of byte digit e h =
-    let l : digit + 48 < 2 ^ 32 = omega arith in
-    let k : digit + 48 ≡ byte = sym (mod-eq_of_lt l) ∙ e in
-    (omega arith, omega arith, omega arith)
+digit-of : (byte : ℕ) → byte < 256 → (byte + 4294967248) % 4294967296 ≤ 9 → (48 ≤ byte) × (byte ≤ 57) × (byte - 48 ≡ (byte + 4294967248) % 4294967296)
+digit-of byte h l = (omega arith, omega arith, omega arith)
 
-pub taking-digit : (s : List ℕ) (at most before taken number digit : ℕ) → Taking s at most before (at + taken) number → taken < most → (digit + 48) % 2 ^ 32 ≡ get_or s (at + taken) 0 → digit ≤ 9
-    → Taking s at most before (at + (taken + 1)) (number * 10 + digit)
-taking-digit s at most before taken number digit g h e l =
-    let d = digit-of (get_or s (at + taken) 0) digit e l in
-    let k : at + taken < at + most = omega arith in
-    let z : at + taken + 1 ≡ at + (taken + 1) = omega arith in
-    subst (λ (i : ℕ). Taking s at most before i (number * 10 + digit)) z (subst (λ (x : ℕ). Taking s at most before (at + taken + 1) (number * 10 + x)) d.2 (taking-more s at most before (at + taken) number g k d.0 d.1))
+pub taking-digit : (s : List ℕ) (at most before i number byte : ℕ) → Taking s at most before i number → i < at + most → byte ≡ get_or s i 0 → byte < 256 → (byte + 4294967248) % 4294967296 ≤ 9
+    → Taking s at most before (i + 1) (number * 10 + (byte + 4294967248) % 4294967296)
+taking-digit s at most before i number byte g h e b l =
+    let d = digit-of byte b l in
+    subst (λ (x : ℕ). Taking s at most before (i + 1) (number * 10 + x)) (ap (λ (y : ℕ). y - 48) (sym e) ∙ d.2) (taking-more s at most before i number g h (rw e at d.0) (rw e at d.1))

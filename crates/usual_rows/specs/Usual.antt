@@ -8,10 +8,10 @@ use Rattle.rules.specs.Lines.{ended}
 use Rattle.rules.specs.Answers.{Answer, accepted}
 use Rattle.rules.specs.SampleFile.{time_cell, power_cell}
 use Rattle.sheet_headings.specs.declared.headings.Columns.{Columns}
-use Rattle.usual_rows.specs.declared.usual.DigitRun.{DigitRun}
-use Rattle.usual_rows.specs.declared.usual.CellRead.{CellRead}
+use Rattle.usual_rows.specs.declared.usual.NumberRead.{NumberRead}
+use Rattle.usual_rows.specs.declared.usual.Cell.{Cell}
 use Rattle.usual_rows.specs.declared.usual.PowersRead.{PowersRead}
-use Rattle.usual_rows.specs.declared.usual.Usual.{Usual}
+use Rattle.usual_rows.specs.declared.usual.UsualRow.{UsualRow}
 use Rattle.sheet.specs.declared.rows.Powers.{Powers}
 use Rattle.sheet.specs.Rows.{row_in, row_of_values}
 
@@ -21,7 +21,7 @@ pub record Part (s : List ℕ) (at end : ℕ) (part : List ℕ) : Type 0 where
   pub size : at + length part ≡ end
 
 -- the digits that were taken, after some whose number is `before`
-pub record DigitsTaken (s : List ℕ) (at most before : ℕ) (r : DigitRun) : Type 0 where
+pub record DigitsTaken (s : List ℕ) (at most before : ℕ) (r : NumberRead) : Type 0 where
   pub taken : List ℕ
   pub part : Part s at r.end taken
   pub few : length taken ≤ most
@@ -29,12 +29,18 @@ pub record DigitsTaken (s : List ℕ) (at most before : ℕ) (r : DigitRun) : Ty
   pub number : r.number ≡ value_from before taken
 
 -- a cell from a place on that is handed back as the part of the text that it is, and its number. It has no byte below the point, so neither
--- comma nor LF nor CR. One that is not blank has the form that its rule asks, and the rule gives its number up to any limit
+-- comma nor LF nor CR. It is not blank, it has the form that its rule asks, and the rule gives its number up to any limit
 pub record CellPart (rule : ℕ → ℕ → List ℕ → Answer ℕ) (most : ℕ) (s : List ℕ) (at : ℕ) (cell : List ℕ) (number : ℕ) : Type 0 where
   pub part : Part s at (at + length cell) cell
+  pub some : 0 < length cell
   pub few : length cell ≤ most
   pub clean : every (λ x. nat_le 46 x) cell ≡ true
-  pub value : 0 < length cell → (line limit : ℕ) → number ≤ limit → rule line limit cell ≡ accepted number
+  pub value : (line limit : ℕ) → number ≤ limit → rule line limit cell ≡ accepted number
+
+-- what is known of a cell that was read, if one was
+abbrev pub CellOf : (ℕ → ℕ → List ℕ → Answer ℕ) → ℕ → List ℕ → ℕ → Option Cell → Type 0
+CellOf rule most s at (Some c) = CellPart rule most s at c.part.now c.number
+CellOf rule most s at None = Unit {0}
 
 -- such a cell within its limit, which ends at the place `end`
 pub record CellTaken (rule : ℕ → ℕ → List ℕ → Answer ℕ) (most limit : ℕ) (s : List ℕ) (at end number : ℕ) : Type 0 where
@@ -53,13 +59,13 @@ abbrev pub PowerTaken : List ℕ → ℕ → ℕ → ℕ → Type 0
 PowerTaken s at end watts = (slice_index s at ≡ 44) × CellTaken power_cell 10 50000000 s (at + 1) end watts
 
 -- what is known of a cell that was read as a time, and as a power
-abbrev pub TimeOf : List ℕ → ℕ → CellRead → Type 0
-TimeOf s at (CellRead.Number end seconds) = TimeTaken s at end seconds
-TimeOf s at CellRead.Other = Unit {0}
+abbrev pub TimeOf : List ℕ → ℕ → Option NumberRead → Type 0
+TimeOf s at (Some r) = TimeTaken s at r.end r.number
+TimeOf s at None = Unit {0}
 
-abbrev pub PowerOf : List ℕ → ℕ → CellRead → Type 0
-PowerOf s at (CellRead.Number end watts) = PowerTaken s at end watts
-PowerOf s at CellRead.Other = Unit {0}
+abbrev pub PowerOf : List ℕ → ℕ → Option NumberRead → Type 0
+PowerOf s at (Some r) = PowerTaken s at r.end r.number
+PowerOf s at None = Unit {0}
 
 -- so many powers, one after the other, each after a comma, and their watts
 abbrev pub PowersTaken : ℕ → List ℕ → ℕ → ℕ → List ℕ → Type 0
@@ -67,9 +73,9 @@ PowersTaken zero s at end watts = end ≡ at
 PowersTaken (suc n) s at end watts = (middle : ℕ) × PowersTaken n s at middle watts × PowerTaken s middle end (slice_index watts n)
 
 -- what is known of three powers that were read
-abbrev pub PowersOf : List ℕ → ℕ → PowersRead → Type 0
-PowersOf s at (PowersRead.Watts end powers) = PowersTaken 3 s at end (powers.second ∷ powers.third ∷ powers.fourth ∷ [])
-PowersOf s at PowersRead.Other = Unit {0}
+abbrev pub PowersOf : List ℕ → ℕ → Option PowersRead → Type 0
+PowersOf s at (Some r) = PowersTaken 3 s at r.end (r.powers.second ∷ r.powers.third ∷ r.powers.fourth ∷ [])
+PowersOf s at None = Unit {0}
 
 -- "A line ends at LF (one CR just before it is dropped)": the end of a line from a place on, with one CR or none
 pub record EndTaken (s : List ℕ) (at next : ℕ) : Type 0 where
@@ -99,19 +105,19 @@ pub record PowersNamed (columns : Columns) : Type 0 where
   pub fourth : (0 < columns.fourth) × (columns.fourth ≤ 3)
 
 -- the row of values in the file's order, whatever its line
-abbrev pub UsualValues : Columns → ℕ → Powers → ℕ → Usual → Type 0
-UsualValues columns at powers next (Usual.Row x n) = (n ≡ next) × ((line : ℕ) → accepted x ≡ row_of_values columns line (at ∷ powers.second ∷ powers.third ∷ powers.fourth ∷ []))
-UsualValues columns at powers next Usual.Other = Unit {0}
+abbrev pub UsualValues : Columns → ℕ → Powers → ℕ → Option UsualRow → Type 0
+UsualValues columns at powers next (Some r) = (r.next ≡ next) × ((line : ℕ) → accepted r.sample ≡ row_of_values columns line (at ∷ powers.second ∷ powers.third ∷ powers.fourth ∷ []))
+UsualValues columns at powers next None = Unit {0}
 
-abbrev pub UsualOf : Columns → List ℕ → ℕ → Usual → Type 0
-UsualOf columns s at (Usual.Row x next) = UsualRight columns s at x next
-UsualOf columns s at Usual.Other = Unit {0}
+abbrev pub UsualOf : Columns → List ℕ → ℕ → Option UsualRow → Type 0
+UsualOf columns s at (Some r) = UsualRight columns s at r.sample r.next
+UsualOf columns s at None = Unit {0}
 
 -- the usual row from a place of a chunk on, later than the last
 pub record UsualLater (columns : Columns) (last : ℕ) (chunk : List ℕ) (at : ℕ) (x : Sample) (next : ℕ) : Type 0 where
   pub later : last < x.at
   pub right : UsualRight columns chunk at x next
 
-abbrev pub UsualLaterOf : Columns → ℕ → List ℕ → ℕ → Usual → Type 0
-UsualLaterOf columns last chunk at (Usual.Row x next) = UsualLater columns last chunk at x next
-UsualLaterOf columns last chunk at Usual.Other = Unit {0}
+abbrev pub UsualLaterOf : Columns → ℕ → List ℕ → ℕ → Option UsualRow → Type 0
+UsualLaterOf columns last chunk at (Some r) = UsualLater columns last chunk at r.sample r.next
+UsualLaterOf columns last chunk at None = Unit {0}

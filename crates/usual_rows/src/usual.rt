@@ -2,165 +2,159 @@
 // Any other row is left to `rows`, which says what is wrong with it.
 ghost use Rattle.std.specs.Prelude.{◌≡◌, ◌+◌, ◌-◌, ◌^◌, ◌<◌, ◌≤◌, true, length};
 ghost use Rattle.rules.specs.SampleFile.{time_cell, power_cell};
-ghost use Rattle.usual_rows.specs.Usual.{DigitsTaken, CellPart, TimeOf, PowerOf, PowersOf, EndOf, PowersNamed, UsualOf, UsualLaterOf};
+ghost use Rattle.usual_rows.specs.Usual.{DigitsTaken, CellOf, TimeOf, PowerOf, PowersOf, EndOf, PowersNamed, UsualOf, UsualLaterOf};
 
 use rules::limits::{MOST_DECIMALS, MOST_KW_DIGITS, MOST_POWER, MOST_TIME, MOST_TIME_DIGITS};
 use rules::samples::Sample;
 use sheet::numbers::last_worth;
 use sheet::rows::{Powers, value_under};
 use sheet_headings::headings::Columns;
-use words::arithmetic::byte_u32;
 
 // The most bytes that a usual row has: 9 digits, three powers of 10 bytes, three commas, CR and LF.
 const MOST_USUAL: usize = 44;
 
+// A row, and the place after its LF.
 #[derive(Clone, Copy)]
-pub enum Usual {
-    // the row, and the place after its LF
-    Row(Sample, usize),
-    Other,
+pub struct UsualRow {
+    pub sample: Sample,
+    pub next: usize,
 }
 
-// Where digits end, and their number.
+// A number that was read, and where it ends.
 #[derive(Clone, Copy)]
-struct DigitRun {
+struct NumberRead {
     end: usize,
     number: u32,
 }
 
-// What a cell from a place on comes to. `specs/Usual.antt` says what is known of each case.
+// A cell as the part of the text that it is, and its number.
 #[derive(Clone, Copy)]
-enum CellRead {
-    // the place after the cell, and its number
-    Number(usize, u32),
-    Other,
+struct Cell<'a> {
+    part: &'a [u8],
+    number: u32,
 }
 
-// What three powers come to.
+// Three powers that were read, and where they end.
 #[derive(Clone, Copy)]
-enum PowersRead {
-    // the place after them, and their watts in the file's order
-    Watts(usize, Powers),
-    Other,
+struct PowersRead {
+    end: usize,
+    powers: Powers,
 }
 
 // At most so many digits from a place on, after digits whose number is `before`.
-fn digits_from(text: &[u8], at: usize, most: usize, before: u32) -> DigitRun
+fn digits_from(text: &[u8], at: usize, most: usize, before: u32) -> NumberRead
     requires { (at + most ≤ length text.now) × (most ≤ 9) × (before < 10 ^ (9 - most)) }
     ensures { DigitsTaken text.now at most before result }
 {
     let mut number = before;
-    let mut taken = 0;
-    while taken < most {
-        let i = at + taken;
+    for i in at..at + most {
         // one test for both ends: a byte below b'0' wraps to a large number
-        let digit = std::num::wrapping_sub_u32(byte_u32(text[i]), 48);
+        let digit = u32::from(text[i]).wrapping_sub(48);
         if 9 < digit {
-            return DigitRun { end: i, number };
+            return NumberRead { end: i, number };
         }
         number = number * 10 + digit;
-        taken += 1;
     }
-    DigitRun {
-        end: at + taken,
+    NumberRead {
+        end: at + most,
         number,
     }
 }
 
-// The cell of a time from a place on, handed back as the part of the text that it is: "1 to 9 digits". Blank where there is none. Its seconds
-// go where they are lent a place, since no enum can hold a part of a text beside a number.
-fn time_cell<'a>(text: &'a [u8], at: usize, seconds: &mut u32) -> &'a [u8]
+// The cell of a time from a place on, handed back as the part of the text that it is: "1 to 9 digits".
+fn time_cell(text: &[u8], at: usize) -> Option<Cell<'_>>
     requires { at + 9 ≤ length text.now }
-    ensures { CellPart time_cell 9 text.now at result.now seconds.new }
+    ensures { CellOf time_cell 9 text.now at result }
 {
     let digits = digits_from(text, at, MOST_TIME_DIGITS, 0);
-    let end = digits.end;
-    *seconds = digits.number;
-    &text[at..end]
+    if digits.end == at {
+        return None;
+    }
+    Some(Cell {
+        part: &text[at..digits.end],
+        number: digits.number,
+    })
 }
 
 // The cell of a power, likewise, with its watts: "1 to 6 digits, then nothing or a point and 1 to 3 digits".
-fn power_cell<'a>(text: &'a [u8], at: usize, watts: &mut u32) -> &'a [u8]
+fn power_cell(text: &[u8], at: usize) -> Option<Cell<'_>>
     requires { at + 11 ≤ length text.now }
-    ensures { CellPart power_cell 10 text.now at result.now watts.new }
+    ensures { CellOf power_cell 10 text.now at result }
 {
     let whole = digits_from(text, at, MOST_KW_DIGITS, 0);
     let point = whole.end;
     if point == at {
-        return &text[at..at];
+        return None;
     }
     if text[point] != b'.' {
-        *watts = whole.number * 1000;
-        return &text[at..point];
+        return Some(Cell {
+            part: &text[at..point],
+            number: whole.number * 1000,
+        });
     }
     let start = point + 1;
     let all = digits_from(text, start, MOST_DECIMALS, whole.number);
-    let end = all.end;
-    if end == start {
-        return &text[at..at];
+    if all.end == start {
+        return None;
     }
-    *watts = all.number * last_worth(end - start);
-    &text[at..end]
+    Some(Cell {
+        part: &text[at..all.end],
+        number: all.number * last_worth(all.end - start),
+    })
 }
 
 // The time from a place on, "at most 316,223,999".
-fn time_from(text: &[u8], at: usize) -> CellRead
+fn time_from(text: &[u8], at: usize) -> Option<NumberRead>
     requires { at + 9 ≤ length text.now }
     ensures { TimeOf text.now at result }
 {
-    let mut seconds = 0;
-    let cell = time_cell(text, at, &mut seconds);
-    if cell.len() == 0 {
-        return CellRead::Other;
+    let cell = time_cell(text, at)?;
+    if MOST_TIME < cell.number {
+        return None;
     }
-    if MOST_TIME < seconds {
-        return CellRead::Other;
-    }
-    CellRead::Number(at + cell.len(), seconds)
+    Some(NumberRead {
+        end: at + cell.part.len(),
+        number: cell.number,
+    })
 }
 
 // The power after a comma, "at most 50,000 kW".
-fn power_after(text: &[u8], comma: usize) -> CellRead
+fn power_after(text: &[u8], comma: usize) -> Option<NumberRead>
     requires { comma + 12 ≤ length text.now }
     ensures { PowerOf text.now comma result }
 {
     if text[comma] != b',' {
-        return CellRead::Other;
+        return None;
     }
     let start = comma + 1;
-    let mut watts = 0;
-    let cell = power_cell(text, start, &mut watts);
-    if cell.len() == 0 {
-        return CellRead::Other;
+    let cell = power_cell(text, start)?;
+    if MOST_POWER < cell.number {
+        return None;
     }
-    if MOST_POWER < watts {
-        return CellRead::Other;
-    }
-    CellRead::Number(start + cell.len(), watts)
+    Some(NumberRead {
+        end: start + cell.part.len(),
+        number: cell.number,
+    })
 }
 
 // Three powers, each after a comma. The loop has the one call of `power_after`, so that it costs no call.
-fn powers_after(text: &[u8], comma: usize) -> PowersRead
+fn powers_after(text: &[u8], comma: usize) -> Option<PowersRead>
     requires { comma + 34 ≤ length text.now }
     ensures { PowersOf text.now comma result }
 {
-    let mut watts: [u32; 3] = [0; 3];
+    let mut watts = [0; 3];
     let mut end = comma;
-    let mut taken = 0;
-    while taken < 3 {
-        let CellRead::Number(after, power) = power_after(text, end) else {
-            return PowersRead::Other;
-        };
-        watts[taken] = power;
-        end = after;
-        taken += 1;
+    for watt in watts.iter_mut() {
+        let power = power_after(text, end)?;
+        *watt = power.number;
+        end = power.end;
     }
     let powers = Powers {
         second: watts[0],
         third: watts[1],
         fourth: watts[2],
     };
-    PowersRead::Watts(end, powers)
+    Some(PowersRead { end, powers })
 }
 
 // The end of a line at a place: "at LF (one CR just before it is dropped)".
@@ -194,56 +188,38 @@ fn powers_named(columns: Columns) -> bool
 fn has_room(len: usize, at: usize) -> bool
     ensures { result ≡ true → at + 44 ≤ len }
 {
-    if len < MOST_USUAL {
-        return false;
-    }
-    if len - MOST_USUAL < at {
-        return false;
-    }
-    true
+    MOST_USUAL <= len && at <= len - MOST_USUAL
 }
 
 // The line from a place on, where it is a usual row.
-pub fn usual_row(columns: Columns, text: &[u8], at: usize) -> Usual
+pub fn usual_row(columns: Columns, text: &[u8], at: usize) -> Option<UsualRow>
     ensures { UsualOf columns text.now at result }
 {
-    if !has_room(text.len(), at) {
-        return Usual::Other;
+    if !has_room(text.len(), at) || !powers_named(columns) {
+        return None;
     }
-    if !powers_named(columns) {
-        return Usual::Other;
-    }
-    let CellRead::Number(time_end, time) = time_from(text, at) else {
-        return Usual::Other;
-    };
-    let PowersRead::Watts(cells_end, powers) = powers_after(text, time_end) else {
-        return Usual::Other;
-    };
-    let Some(next) = end_from(text, cells_end) else {
-        return Usual::Other;
-    };
+    let time = time_from(text, at)?;
+    let cells = powers_after(text, time.end)?;
+    let next = end_from(text, cells.end)?;
     let sample = Sample {
-        at: time,
-        load: value_under(1, columns, powers),
-        solar: value_under(2, columns, powers),
-        sheddable: value_under(3, columns, powers),
+        at: time.number,
+        load: value_under(1, columns, cells.powers),
+        solar: value_under(2, columns, cells.powers),
+        sheddable: value_under(3, columns, cells.powers),
     };
     if sample.load < sample.sheddable {
-        return Usual::Other;
+        return None;
     }
-    Usual::Row(sample, next)
+    Some(UsualRow { sample, next })
 }
 
 // The row from a place of the chunk on, where it is a usual one that is later than the last.
-pub fn usual_later(columns: Columns, last: u32, chunk: &[u8], at: usize) -> Usual
+pub fn usual_later(columns: Columns, last: u32, chunk: &[u8], at: usize) -> Option<UsualRow>
     ensures { UsualLaterOf columns last chunk.now at result }
 {
-    let usual = usual_row(columns, chunk, at);
-    let Usual::Row(sample, next) = usual else {
-        return Usual::Other;
-    };
-    if sample.at <= last {
-        return Usual::Other;
+    let row = usual_row(columns, chunk, at)?;
+    if row.sample.at <= last {
+        return None;
     }
-    Usual::Row(sample, next)
+    Some(row)
 }

@@ -1,10 +1,7 @@
 -- `usual_rows::usual::digits_from` meets its contract. Assumes nothing.
-use Rattle.std.proofs.Common.{◌+◌, ◌-◌, ◌^◌, ◌<◌, ◌≤◌}
+use Rattle.std.proofs.Common.{◌-◌, ◌^◌, ◌<◌, ◌≤◌}
 use Rattle.usual_rows.proofs.UsualLaws.{Taking}
 use Rattle.usual_rows.proofs.usual.digits_from.Given as goal
 
-abbrev pub invariant-loop-taken : goal.invariant-loop-taken
-invariant-loop-taken l = (l.most ≤ 9) × (l.before < 10 ^ (9 - l.most)) × Taking l.text l.at l.most l.before (l.at + l.taken) l.number
-
-abbrev pub decreases-loop-taken : goal.decreases-loop-taken
-decreases-loop-taken l = l.most - l.taken
+abbrev pub invariant-loop-i : goal.invariant-loop-i
+invariant-loop-i l = (l.most ≤ 9) × (l.before < 10 ^ (9 - l.most)) × Taking l.text l.at l.most l.before l.i l.number

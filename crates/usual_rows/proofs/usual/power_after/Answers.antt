@@ -4,4 +4,4 @@ use Rattle.usual_rows.proofs.UsualLaws.{cell-taken}
 use Rattle.usual_rows.proofs.usual.power_after.Goals as goal
 
 pub returns : goal.returns
-returns c = (c.if-text-comma-ne44.false, cell-taken power_cell 10 50000000 _ _ _ _ c.power_cell-cell.ensures c.if-cell-eq0.false c.if-watts-gt-MOST_POWER.false)
+returns c = (c.if-text-comma-ne44.false, cell-taken power_cell 10 50000000 _ _ _ _ (rw c.in_ok-cell.was at c.power_cell.ensures) c.if-cell-gt-MOST_POWER.false)

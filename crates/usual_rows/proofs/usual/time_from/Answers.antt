@@ -4,4 +4,4 @@ use Rattle.usual_rows.proofs.UsualLaws.{cell-taken}
 use Rattle.usual_rows.proofs.usual.time_from.Goals as goal
 
 pub returns : goal.returns
-returns c = cell-taken time_cell 9 316223999 _ _ _ _ c.time_cell-cell.ensures c.if-cell-eq0.false c.if-seconds-gt-MOST_TIME.false
+returns c = cell-taken time_cell 9 316223999 _ _ _ _ (rw c.in_ok-cell.was at c.time_cell.ensures) c.if-cell-gt-MOST_TIME.false

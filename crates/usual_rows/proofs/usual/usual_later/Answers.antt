@@ -5,6 +5,5 @@ use Rattle.usual_rows.proofs.usual.usual_later.Goals as goal
 
 pub returns : goal.returns
 returns c =
-    let a = c.args in
-    let u : UsualRight a.columns a.chunk.now a.at c.in-Row.sample c.in-Row.next = rw c.in-Row.is at c.usual_row-usual.ensures in
-    record { later = omega (arith, c.if-sample-last.false); right = u }
+    let u : UsualRight c.args.columns c.args.chunk.now c.args.at c.in_ok-row.row.sample c.in_ok-row.row.next = rw c.in_ok-row.was at c.usual_row.ensures in
+    record { later = omega (arith, c.if-row-last.false); right = u }
