@@ -147,9 +147,9 @@ Taken stage l ls t = to_come stage (l ∷ ls) ≡ row_first t.found (to_come t.s
 none_yet : (stage : Stage) → value_or [] (answer_from stage []) ≡ []
 unfolding answer_from sheet_lines rows_after later_rows
 none_yet Stage.Heading = refl
-none_yet (Stage.FirstRow columns) = refl
-none_yet (Stage.LaterRows columns last n) = refl
-none_yet (Stage.Refused r) = refl
+none_yet (Stage.FirstRow _) = refl
+none_yet (Stage.LaterRows _ _ _) = refl
+none_yet (Stage.Refused _) = refl
 
 -- a line that gives a row leads to a stage that needs no further one
 abbrev Open : Turn → Type 0

@@ -6,7 +6,7 @@ ghost use Rattle.rules.specs.SampleFile.{sample_sheet, heading_line};
 ghost use Rattle.sheet_headings.specs.Headings.{headed_of};
 ghost use Rattle.sheet.specs.Rows.{row_in};
 ghost use Rattle.sheet_stages.specs.ToCome.{most_place, to_come, row_first, end_of, is_refused};
-ghost use Rattle.sheet_stages.specs.Stages.{after_later};
+ghost use Rattle.sheet_stages.specs.Stages.{waiting, after_later};
 
 use rules::answers::Refusal;
 use rules::samples::Sample;
@@ -29,27 +29,29 @@ pub struct Turn {
     pub found: Option<Sample>,
 }
 
+impl Turn {
+    // A line that gave no row.
+    fn waiting(stage: Stage) -> Turn
+        ensures { result ≡ waiting stage }
+    {
+        Turn { stage, found: None }
+    }
+}
+
 // One line more, up to the greatest place that 64 bits hold.
 pub fn next_line(lines: u64) -> u64
     ensures { result ≡ min (suc lines) most_place }
 {
-    if lines < u64::MAX { lines + 1 } else { lines }
+    lines.saturating_add(1)
 }
 
 // After the heading line, the first row is awaited.
 fn after_heading(headed: Result<Columns, Refusal>) -> Turn
     ensures { (l : Line) (ls : List Line) → headed_of headed ≡ heading_line sample_sheet.names l → to_come Stage.Heading (l ∷ ls) ≡ row_first result.found (to_come result.stage ls) }
 {
-    let found = None;
     match headed {
-        Ok(columns) => Turn {
-            stage: Stage::FirstRow(columns),
-            found,
-        },
-        Err(refusal) => Turn {
-            stage: Stage::Refused(refusal),
-            found,
-        },
+        Ok(columns) => Turn::waiting(Stage::FirstRow(columns)),
+        Err(refusal) => Turn::waiting(Stage::Refused(refusal)),
     }
 }
 
@@ -58,10 +60,6 @@ fn after_first(columns: Columns, row: Result<Sample, Refusal>) -> Turn
     ensures { (l : Line) (ls : List Line) → result_of row ≡ row_in columns 2 l → to_come (Stage.FirstRow columns) (l ∷ ls) ≡ row_first result.found (to_come result.stage ls) }
 {
     match row {
-        Err(refusal) => Turn {
-            stage: Stage::Refused(refusal),
-            found: None,
-        },
         Ok(sample) => {
             if sample.at == 0 {
                 return Turn {
@@ -69,10 +67,9 @@ fn after_first(columns: Columns, row: Result<Sample, Refusal>) -> Turn
                     found: Some(sample),
                 };
             }
-            let stage = Stage::Refused(Refusal::FirstTime(2));
-            let found = None;
-            Turn { stage, found }
+            Turn::waiting(Stage::Refused(Refusal::FirstTime(2)))
         }
+        Err(refusal) => Turn::waiting(Stage::Refused(refusal)),
     }
 }
 
@@ -81,23 +78,16 @@ pub fn after_later(columns: Columns, last: u32, line: u64, row: Result<Sample, R
     ensures { result ≡ after_later columns last line row }
 {
     match row {
-        Err(refusal) => Turn {
-            stage: Stage::Refused(refusal),
-            found: None,
-        },
         Ok(sample) => {
-            let at = sample.at;
-            if last < at {
+            if last < sample.at {
                 return Turn {
-                    stage: Stage::LaterRows(columns, at, line),
+                    stage: Stage::LaterRows(columns, sample.at, line),
                     found: Some(sample),
                 };
             }
-            Turn {
-                stage: Stage::LaterRows(columns, last, line),
-                found: None,
-            }
+            Turn::waiting(Stage::LaterRows(columns, last, line))
         }
+        Err(refusal) => Turn::waiting(Stage::Refused(refusal)),
     }
 }
 
@@ -112,10 +102,7 @@ pub fn take_line(stage: Stage, size: usize, text: &[u8]) -> Turn
             let line = next_line(lines);
             after_later(columns, last, line, read_row(columns, line, size, text))
         }
-        Stage::Refused(refusal) => Turn {
-            stage: Stage::Refused(refusal),
-            found: None,
-        },
+        Stage::Refused(_) => Turn::waiting(stage),
     }
 }
 
@@ -127,7 +114,7 @@ pub fn too_long(stage: Stage) -> Stage
         Stage::Heading => Stage::Refused(Refusal::LineLength(1)),
         Stage::FirstRow(_) => Stage::Refused(Refusal::LineLength(2)),
         Stage::LaterRows(_, _, lines) => Stage::Refused(Refusal::LineLength(next_line(lines))),
-        Stage::Refused(refusal) => Stage::Refused(refusal),
+        Stage::Refused(_) => stage,
     }
 }
 
@@ -147,10 +134,5 @@ pub fn verdict_at(stage: Stage) -> Result<(), Refusal>
 pub fn line_refused(stage: Stage) -> bool
     ensures { result ≡ is_refused stage }
 {
-    match stage {
-        Stage::Heading => false,
-        Stage::FirstRow(_) => false,
-        Stage::LaterRows(_, _, _) => false,
-        Stage::Refused(_) => true,
-    }
+    matches!(stage, Stage::Refused(_))
 }

@@ -15,4 +15,4 @@ returns-in-LaterRows c =
     λ ls. rw c.in-LaterRows.is (later-led _ _ _ c.read_row-in-LaterRows.result _ c.after_later.ensures _ ls _ c.next_line-line.ensures c.read_row-in-LaterRows.ensures)
 
 pub returns-in-Refused : goal.returns-in-Refused
-returns-in-Refused c = λ ls. rw c.in-Refused.is (refused-taken _ _ ls)
+returns-in-Refused c = λ ls. rw (c.waiting.ensures, c.in-Refused.is) (refused-taken _ _ ls)
