@@ -1,5 +1,5 @@
 -- The row in force at a second, of the rows that are ahead. Assumes nothing.
-use Rattle.std.specs.Prelude.{if◌then◌else◌, Some, None, Option}
+use Rattle.std.specs.Prelude.{if◌then◌else◌, Some, None, Option, is_some}
 use Prim.Native.Nat.{ℕ, zero, suc, ◌+◌, ◌≤◌, ◌<◌, min, max}
 use mathlib.Core.Path.{◌≡◌, refl, sym, ap, subst, ◌∙◌}
 use mathlib.Core.Bool.{Bool, true, false}
@@ -18,7 +18,7 @@ use Rattle.sample_rows.specs.declared.reader.NextRow.{NextRow}
 use Rattle.rows_in_force.specs.declared.in_force.Ahead.{Ahead}
 use Rattle.rows_in_force.specs.declared.in_force.InForce.{InForce}
 use Rattle.rows_in_force.specs.declared.in_force.Begun.{Begun}
-use Rattle.sheet_stages.specs.ToCome.{RowsRead, row_first, all_read, is_row}
+use Rattle.sheet_stages.specs.ToCome.{RowsRead, row_first, all_read}
 use Rattle.sample_rows.specs.Streamed.{yet_to_come, NextRight}
 use Rattle.rows_in_force.specs.Held.{rows_ahead, is_ended, is_refusal, held_from, latest, Onward, Tellable, last_comes_in, comes_in, reader_at, ReachedRight}
 use Rattle.sample_rows.proofs.LineLaws.{drop-least}
@@ -255,7 +255,7 @@ module _ (b : Begun) (line : List ℕ) (now : Sample) (ahead : Ahead) (t : ℕ) 
         rows = λ rest. let d = comes-in-right t (left (Some x) e rest) k.now (Ahead.Next x) in
             record { verdict = d.verdict ∙ same-verdict (Some x) e rest; onward = onward_then (same-onward (Some x) e rest) d.onward; force = d.force; tells = d.tells };
         within = right.within;
-        onward = let o : next < p.next = right.onward (ap is_row e) in omega (arith, g.onward);
+        onward = let o : next < p.next = right.onward (ap is_some e) in omega (arith, g.onward);
         ended = comes-in-ended k.now (Ahead.Next x) t ∙ sym unended;
         refusal = comes-in-refusal k.now (Ahead.Next x) t ∙ sym unrefused;
         unread = comes-in-unread k.now (Ahead.Next x) t;
@@ -268,7 +268,7 @@ module _ (b : Begun) (line : List ℕ) (now : Sample) (ahead : Ahead) (t : ℕ) 
         rows = λ rest. record { verdict = same-verdict None e rest; onward = same-onward None e rest; force = λ b. never b; tells = λ b. never b };
         within = right.within;
         onward = let o : min next (length chunk) ≤ p.next = right.ahead in omega (arith, g.onward, g.within);
-        further = λ b. right.further (ap is_row e);
+        further = λ b. right.further (ap is_some e);
         wanted = λ b. unended;
         unread = λ b. refl;
         ended = sym unended;

@@ -1,16 +1,15 @@
 -- The lines of a file that comes in pieces, and the bytes of a line that are put together. Assumes nothing.
-use Rattle.std.specs.Prelude.{if◌then◌else◌, Ok, Err, Some, None, Result, Option}
+use Rattle.std.specs.Prelude.{if◌then◌else◌, Ok, Err, Some, None, Result, Option, is_some}
 use Prim.Native.Nat.{ℕ, zero, suc, ◌+◌, ◌-◌, ◌≤◌, ◌<◌, min}
 use mathlib.Core.Path.{◌≡◌, refl, sym, ap, ◌∙◌}
 use mathlib.Core.Bool.{Bool, true, false}
 use mathlib.Core.List.{List, [], ◌∷◌, ◌++◌, map, append_assoc, append-nil}
-use native.Mathlib.Numerals.{add-one}
 use native.Mathlib.Omega.{arith}
 use native.Mathlib.Decide.{dec_lt}
-use lib.Dec.{leb, eqb}
-use lib.ListN.{length, take, drop, get_or, set, length-append, length-take, length-drop, drop_of_length-le}
-use lib.Seq.{take_all, take-length, drop-length, drop-drop, take-append-le, drop-append-le, paste, paste-suc, take-paste}
-use borrow.Author.Tests.{le-leb, lt-leb, eq-eqb, ne_eqb}
+use lib.Dec.{eqb}
+use lib.ListN.{length, take, drop, get_or, length-append, length-take, length-drop, drop_of_length-le}
+use lib.Seq.{take_all, take-length, drop-length, drop-drop, take-append-le, drop-append-le}
+use borrow.Author.Tests.{eq-eqb, ne_eqb}
 use Rattle.byte_search.specs.Bytes.{index_after, index_of, slice}
 use Rattle.rules.specs.declared.samples.Sample.{Sample}
 use Rattle.rules.specs.declared.answers.Refusal.{Refusal}
@@ -19,15 +18,21 @@ use Rattle.rules.specs.SampleFile.{sample_sheet, sheet_lines, sample_of, sample_
 use Rattle.rules.specs.Bytes.{LF, CR, in_front, parts}
 use Rattle.rules.specs.Lines.{Line, without_cr, ended, at_end, lines_of, lines}
 use Rattle.sheet_stages.specs.declared.stage.Stage.{Stage}
-use Rattle.sheet_stages.specs.ToCome.{most_place, placed, samples_of, answer_from, RowsRead, up_to_refused, to_come, file_rows, row_first, answer_of, all_read, end_of, is_row}
+use Rattle.sheet_stages.specs.ToCome.{most_place, placed, samples_of, answer_from, RowsRead, up_to_refused, to_come, file_rows, row_first, answer_of, end_of}
 use Rattle.sample_rows.specs.declared.reader.SampleReader.{SampleReader}
-use Rattle.sample_rows.specs.Streamed.{begun_with, lines_after, begun_in, yet_to_come}
+use Rattle.sample_rows.specs.Streamed.{begun_with, lines_after, begun_in, yet_to_come, ending_of}
 use Rattle.sheet_headings.specs.declared.headings.Columns.{Columns}
 use Rattle.sheet.specs.Rows.{row_in}
 use Rattle.usual_rows.specs.Usual.{UsualRight}
 use Rattle.rules.proofs.Checks.{not-accepted}
+use Rattle.rules.proofs.Tests.{never}
 use Rattle.sheet_headings.proofs.PartsAt.{index-le, part-first}
 use Rattle.sheet_stages.proofs.UpToRefused.{answer-read}
+
+-- where there is no row
+pub no_row : (o : Option Sample) → is_some o ≡ false → o ≡ None
+no_row None h = refl
+no_row (Some x) h = never (sym h)
 
 -- ---- "one CR just before it is dropped"
 
@@ -189,11 +194,6 @@ module _ (n : ℕ) (l : List ℕ) where
 
 -- ---- the bytes of a line put together: the first `held` of those that the line had, and then more
 
--- one byte more is copied
-pub copy-turn : (line whole : List ℕ) (held : ℕ) (more : List ℕ) (i : ℕ) → whole ≡ paste line held more i → held + i < length line → i < length more
-    → set whole (held + i) (get_or more i 0) ≡ paste line held more (i + 1)
-copy-turn line whole held more i e h k = rw (e, add-one i) (paste-suc line held more i 0 h k)
-
 module _ (line more : List ℕ) (len held : ℕ) (size : length line ≡ 512) (least : held ≡ min len 512) where
   pub held-is : take held line ≡ take len line
   held-is = let e : held ≡ min len (length line) = omega arith in rw e (take-least len line)
@@ -201,17 +201,8 @@ module _ (line more : List ℕ) (len held : ℕ) (size : length line ≡ 512) (l
   whole_length : length (take len line ++ more) ≡ held + length more
   whole_length = simp (length-append, length-take) (omega arith)
 
-  pub whole-fits : held + length more ≤ 512 → true ≡ leb (length (take len line ++ more)) 512
-  whole-fits h = sym (le-leb (length (take len line ++ more)) 512 (omega (arith, whole_length)))
-
-  pub whole-over : 512 < held + length more → false ≡ leb (length (take len line ++ more)) 512
-  whole-over h = sym (lt-leb (length (take len line ++ more)) 512 (omega (arith, whole_length)))
-
-  pub whole_is : (whole : List ℕ) (i : ℕ) → whole ≡ paste line held more i → i ≡ length more → take (held + i) whole ≡ take len line ++ more
-  whole_is whole i e h =
-      let k : held ≤ length line = omega arith in
-      let j : length more ≤ length more = omega arith in
-      rw (e, h, take-paste line held more (length more) k j, take-length more, held-is)
+  pub whole-over : 512 < held + length more → 512 < length (take len line ++ more)
+  whole-over h = omega (arith, whole_length)
 
 -- ---- a chunk, from a place on
 
@@ -285,8 +276,8 @@ unfolding to_come file_rows answer_from
 from_start rest = ap (up_to_refused (answer_from Stage.Heading)) (lines-begun rest)
 
 rows_are : (a : Answer (List (List ℕ))) → samples_of a ≡ (a >>= λ (rows : List (List ℕ)). accepted (map sample_of rows))
-rows_are (accepted rows) = refl
-rows_are (refused number place) = refl
+rows_are (accepted _) = refl
+rows_are (refused _ _) = refl
 
 -- where no line is refused the rows are the paper's, and else the refusal is
 pub file-answer : (s : List ℕ) → answer_of (file_rows s) ≡ placed (sample_file s)
@@ -294,16 +285,14 @@ unfolding file_rows sample_file
 file-answer s = answer-read (λ (ls : List Line). placed (samples_of (sheet_lines sample_sheet ls))) (lines s) ∙ ap placed (rows_are (sheet_lines sample_sheet (lines s)))
 
 -- the end of the file, after a line that gave `found`
-pub ending-refused : (found : Option Sample) (v : Result (Unit {0}) Refusal) (a : RowsRead) (r : Refusal) → v ≡ Err r → end_of v ≡ a → (is_row found ≡ true → a.verdict ≡ accepted tt)
+pub ending-refused : (found : Option Sample) (v : Result (Unit {0}) Refusal) (a : RowsRead) (r : Refusal) → v ≡ Err r → end_of v ≡ a → (is_some found ≡ true → a.verdict ≡ accepted tt)
     → record { rows = []; verdict = refusal_of r } ≡ row_first found a
 ending-refused (Some x) v a r p e unrefused = not-accepted _ _ tt (ap (λ (w : Result (Unit {0}) Refusal). result_of w) (sym p) ∙ ap (λ (r : RowsRead). r.verdict) e ∙ unrefused refl)
 ending-refused None v a r p e unrefused = ap end_of (sym p) ∙ e
 
-pub ending-row : (found : Option Sample) (v : Result (Unit {0}) Refusal) (a : RowsRead) (x : Sample) → found ≡ Some x → v ≡ Ok tt → end_of v ≡ a → all_read (x ∷ []) ≡ row_first found a
-ending-row found v a x f p e = ap (row_first (Some x)) (ap end_of (sym p) ∙ e) ∙ ap (λ (g : Option Sample). row_first g a) (sym f)
-
-pub ending-nothing : (found : Option Sample) (v : Result (Unit {0}) Refusal) (a : RowsRead) → found ≡ None → v ≡ Ok tt → end_of v ≡ a → all_read [] ≡ row_first found a
-ending-nothing found v a f p e = ap end_of (sym p) ∙ e ∙ ap (λ (g : Option Sample). row_first g a) (sym f)
+pub ending-told : (found : Option Sample) (v : Result (Unit {0}) Refusal) (a : RowsRead) → v ≡ Ok tt → end_of v ≡ a → ending_of (Ok found) ≡ row_first found a
+ending-told (Some x) v a p e = ap (row_first (Some x)) (ap end_of (sym p) ∙ e)
+ending-told None v a p e = ap end_of (sym p) ∙ e
 
 -- a last line without LF is a line
 pub last_line : (s : List ℕ) → 0 < length s → lines_after s [] ≡ record { size = length s; text = s } ∷ []

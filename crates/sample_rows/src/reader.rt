@@ -1,8 +1,8 @@
 // The rows of a sample file that comes in chunks of any length: the reader goes in by value and comes back.
-ghost use Rattle.std.specs.Prelude.{◌≡◌, ℕ, ◌≤◌, ◌<◌, true, List, [], ◌∷◌, ◌++◌, length, take, leb};
+ghost use Rattle.std.specs.Prelude.{◌≡◌, ℕ, ◌≤◌, ◌<◌, true, List, [], ◌∷◌, ◌++◌, length, take, is_some};
 ghost use Rattle.rules.specs.Lines.{Line, ended as ended_line, without_cr};
-ghost use Rattle.sheet_stages.specs.ToCome.{to_come, file_rows, row_first, is_row};
-ghost use Rattle.sample_rows.specs.Streamed.{lines_after, begun_in, text_of, yet_to_come, LineRight, NextRight, PulledRight, ending_of};
+ghost use Rattle.sheet_stages.specs.ToCome.{to_come, file_rows, row_first};
+ghost use Rattle.sample_rows.specs.Streamed.{lines_after, begun_in, text_of, yet_to_come, ExtendedRight, LineRight, NextRight, PulledRight, ending_of};
 ghost use Rattle.rules.specs.Answers.{accepted};
 
 use rules::answers::Refusal;
@@ -10,8 +10,7 @@ use rules::limits::MOST_LINE;
 use rules::samples::Sample;
 use sheet_headings::headings::Columns;
 use sheet_stages::stage::{Stage, Turn, after_later, next_line, take_line, too_long, verdict_at};
-use usual_rows::usual::{Usual, usual_row};
-use words::arithmetic::lesser;
+use usual_rows::usual::usual_row;
 
 // The bytes of the line that has begun, and what the lines before it came to.
 #[derive(Clone, Copy)]
@@ -29,13 +28,11 @@ pub struct Pulled {
     pub found: Option<Sample>,
 }
 
-// What a line of a chunk gave, and the place after its LF; `ended` is false where the chunk has none.
+// What a line of a chunk gave, and the place after its LF.
 #[derive(Clone, Copy)]
 struct LineTurn {
-    stage: Stage,
-    found: Option<Sample>,
+    turn: Turn,
     next: usize,
-    ended: bool,
 }
 
 // The next row of the lines that end in a chunk; the chunk is to be read on at `next`, where `len` bytes of a line have begun.
@@ -47,12 +44,11 @@ pub struct NextRow {
     pub found: Option<Sample>,
 }
 
-// A line with more bytes after those that it had; `fits` is false where it is longer than a line may be.
+// A line with more bytes after those that it had.
 #[derive(Clone, Copy)]
 struct Extended {
     line: [u8; 512],
     len: usize,
-    fits: bool,
 }
 
 // "one CR just before it is dropped"
@@ -86,31 +82,21 @@ fn whole_line(stage: Stage, line: &[u8], ended: bool) -> Turn
     take_line(stage, line.len(), text_of(line, ended))
 }
 
-// The line's first `len` bytes and then `more`.
-fn extended_by(line: [u8; 512], len: usize, more: &[u8]) -> Extended
-    ensures fits_value { result.fits ≡ leb (length (take len line ++ more.now)) 512 }
-    ensures line_value { (result.fits ≡ true → take result.len result.line ≡ take len line ++ more.now) × (result.len ≤ 512) × (length result.line ≡ 512) }
+// The line's first `len` bytes and then `more`, unless that is longer than a line may be.
+fn extended_by(line: [u8; 512], len: usize, more: &[u8]) -> Option<Extended>
+    ensures { ExtendedRight (take len line ++ more.now) result }
 {
-    let held = lesser(len, MOST_LINE);
+    let held = len.min(MOST_LINE);
     if MOST_LINE - held < more.len() {
-        return Extended {
-            line,
-            len: held,
-            fits: false,
-        };
+        return None;
     }
     let mut whole = line;
-    let mut i = 0;
-    while i < more.len() {
-        let at = held + i;
-        whole[at] = more[i];
-        i += 1;
-    }
-    Extended {
+    let end = held + more.len();
+    whole[held..end].copy_from_slice(more);
+    Some(Extended {
         line: whole,
-        len: held + i,
-        fits: true,
-    }
+        len: end,
+    })
 }
 
 // The line that had begun, ended by these bytes; the usual line lies whole in them, so that nothing is copied.
@@ -120,17 +106,13 @@ fn joined_line(stage: Stage, line: &[u8; 512], len: usize, more: &[u8]) -> Turn
     if len == 0 {
         return whole_line(stage, more, true);
     }
-    let begun = *line;
-    let whole = extended_by(begun, len, more);
-    if !whole.fits {
+    let Some(whole) = extended_by(*line, len, more) else {
         return Turn {
             stage: too_long(stage),
             found: None,
         };
-    }
-    let text = whole.line;
-    let end = whole.len;
-    whole_line(stage, &text[..end], true)
+    };
+    whole_line(stage, &whole.line[..whole.len], true)
 }
 
 // The line that has begun goes on with these bytes, a chunk's after its last LF; where it is too long, no byte of it is wanted any more.
@@ -139,19 +121,18 @@ pub fn kept(reader: SampleReader, more: &[u8]) -> SampleReader
 {
     let stage = reader.stage;
     let line = reader.line;
-    let whole = extended_by(line, reader.len, more);
-    let text = whole.line;
-    if whole.fits {
+    let Some(whole) = extended_by(line, reader.len, more) else {
         return SampleReader {
-            line: text,
-            len: whole.len,
-            stage,
+            line,
+            len: 0,
+            stage: too_long(stage),
         };
-    }
+    };
+    let line = whole.line;
     SampleReader {
-        line: text,
-        len: 0,
-        stage: too_long(stage),
+        line,
+        len: whole.len,
+        stage,
     }
 }
 
@@ -167,32 +148,22 @@ pub fn reader() -> SampleReader
 }
 
 // The line from a place of the chunk on, with the bytes that it had before, where the chunk has its LF.
-fn any_line(stage: Stage, line: &[u8; 512], len: usize, chunk: &[u8], at: usize) -> LineTurn
+fn any_line(stage: Stage, line: &[u8; 512], len: usize, chunk: &[u8], at: usize) -> Option<LineTurn>
     requires { at < length chunk.now }
     ensures { LineRight stage (take len line.now) chunk.now at result }
 {
     let end = byte_search::find(chunk, at, chunk.len(), b'\n');
     if chunk.len() <= end {
-        return LineTurn {
-            stage,
-            found: None,
-            next: at,
-            ended: false,
-        };
+        return None;
     }
-    let turn = joined_line(stage, line, len, &chunk[at..end]);
-    let after = turn.stage;
-    let found = turn.found;
-    LineTurn {
-        stage: after,
-        found,
+    Some(LineTurn {
+        turn: joined_line(stage, line, len, &chunk[at..end]),
         next: end + 1,
-        ended: true,
-    }
+    })
 }
 
 // The same; the usual row lies whole in the chunk, and is read in one pass over its bytes.
-fn line_at(stage: Stage, line: &[u8; 512], len: usize, chunk: &[u8], at: usize) -> LineTurn
+fn line_at(stage: Stage, line: &[u8; 512], len: usize, chunk: &[u8], at: usize) -> Option<LineTurn>
     requires { at < length chunk.now }
     ensures { LineRight stage (take len line.now) chunk.now at result }
 {
@@ -202,19 +173,13 @@ fn line_at(stage: Stage, line: &[u8; 512], len: usize, chunk: &[u8], at: usize) 
     let Stage::LaterRows(columns, last, lines) = stage else {
         return any_line(stage, line, len, chunk, at);
     };
-    let usual = usual_row(columns, chunk, at);
-    let Usual::Row(sample, next) = usual else {
+    let Some(row) = usual_row(columns, chunk, at) else {
         return any_line(stage, line, len, chunk, at);
     };
-    let turn = after_later(columns, last, next_line(lines), Ok(sample));
-    let after = turn.stage;
-    let found = turn.found;
-    LineTurn {
-        stage: after,
-        found,
-        next,
-        ended: true,
-    }
+    Some(LineTurn {
+        turn: after_later(columns, last, next_line(lines), Ok(row.sample)),
+        next: row.next,
+    })
 }
 
 // The next row out of the lines that end in the chunk, from a place on; the bytes of the line that has begun are left alone.
@@ -223,29 +188,27 @@ pub fn next_row(stage: Stage, line: &[u8; 512], len: usize, chunk: &[u8], at: us
 {
     let mut latest = stage;
     let mut begun = len;
-    let mut next = lesser(at, chunk.len());
+    let mut next = at.min(chunk.len());
     while next < chunk.len() {
-        let turn = line_at(latest, line, begun, chunk, next);
-        if !turn.ended {
+        let Some(ended) = line_at(latest, line, begun, chunk, next) else {
             return NextRow {
                 stage: latest,
                 len: begun,
                 next,
                 found: None,
             };
-        }
-        latest = turn.stage;
+        };
+        latest = ended.turn.stage;
         begun = 0;
-        next = turn.next;
-        let found = turn.found;
-        let None = found else {
+        next = ended.next;
+        if ended.turn.found.is_some() {
             return NextRow {
                 stage: latest,
                 len: begun,
                 next,
-                found,
+                found: ended.turn.found,
             };
-        };
+        }
     }
     NextRow {
         stage: latest,
@@ -260,22 +223,21 @@ pub fn pull(reader: SampleReader, chunk: &[u8], at: usize) -> Pulled
     ensures { PulledRight reader chunk.now at result }
 {
     let line = reader.line;
-    let begun = reader.stage;
-    let row = next_row(begun, &line, reader.len, chunk, at);
-    let stage = row.stage;
-    let len = row.len;
-    let next = row.next;
-    let found = row.found;
-    let after = SampleReader { line, len, stage };
-    let None = found else {
+    let row = next_row(reader.stage, &line, reader.len, chunk, at);
+    let after = SampleReader {
+        line,
+        len: row.len,
+        stage: row.stage,
+    };
+    if row.found.is_some() {
         return Pulled {
             reader: after,
-            next,
-            found,
+            next: row.next,
+            found: row.found,
         };
-    };
+    }
     Pulled {
-        reader: kept(after, &chunk[next..]),
+        reader: kept(after, &chunk[row.next..]),
         next: chunk.len(),
         found: None,
     }
@@ -283,19 +245,11 @@ pub fn pull(reader: SampleReader, chunk: &[u8], at: usize) -> Pulled
 
 // The end of the file after a line that gave this; a line that gives a row leaves no refusal.
 fn ended_at(turn: Turn) -> Result<Option<Sample>, Refusal>
-    requires { is_row turn.found ≡ true → (to_come turn.stage []).verdict ≡ accepted tt }
+    requires { is_some turn.found ≡ true → (to_come turn.stage []).verdict ≡ accepted tt }
     ensures { ending_of result ≡ row_first turn.found (to_come turn.stage []) }
 {
-    let stage = turn.stage;
-    let verdict = verdict_at(stage);
-    if let Err(refusal) = verdict {
-        return Err(refusal);
-    }
-    let found = turn.found;
-    match found {
-        Some(row) => Ok(Some(row)),
-        None => Ok(None),
-    }
+    verdict_at(turn.stage)?;
+    Ok(turn.found)
 }
 
 // The end of the file: "A line ends at LF .. or at the end of the file".
@@ -304,12 +258,9 @@ pub fn end(reader: SampleReader) -> Result<Option<Sample>, Refusal>
 {
     let line = reader.line;
     let stage = reader.stage;
-    let len = lesser(reader.len, MOST_LINE);
+    let len = reader.len.min(MOST_LINE);
     if len == 0 {
-        return ended_at(Turn {
-            stage,
-            found: None,
-        });
+        return ended_at(Turn { stage, found: None });
     }
     ended_at(whole_line(stage, &line[..len], false))
 }

@@ -1,5 +1,5 @@
 -- The rows of a sheet, counted as they are pulled. Assumes nothing.
-use Rattle.std.specs.Prelude.{Ok, Err, Some, None, Result, Option}
+use Rattle.std.specs.Prelude.{Ok, Err, Some, None, Result, Option, is_some}
 use Prim.Native.Nat.{ℕ, suc, min, ◌+◌, ◌≤◌, ◌<◌}
 use mathlib.Core.Path.{◌≡◌, refl, sym, ap, ◌∙◌}
 use mathlib.Core.Bool.{Bool, true, false}
@@ -11,7 +11,7 @@ use Rattle.rules.specs.Answers.{Answer, accepted, refused, refusal_of, judged, �
 use Rattle.rules.specs.SampleFile.{sample_file}
 use Rattle.rules.specs.Sizing.{sample_check}
 use Rattle.samples.specs.declared.check.Span.{Span}
-use Rattle.sheet_stages.specs.ToCome.{most_place, placed, RowsRead, file_rows, row_first, is_row}
+use Rattle.sheet_stages.specs.ToCome.{most_place, placed, RowsRead, file_rows, row_first}
 use Rattle.sample_rows.specs.declared.reader.SampleReader.{SampleReader}
 use Rattle.sample_rows.specs.declared.reader.Pulled.{Pulled}
 use Rattle.samples.specs.declared.check.SampleCheck.{SampleCheck}
@@ -96,9 +96,9 @@ module _ (c : SampleCheck) where
 
 -- a pull goes ahead, with a row or with the whole chunk
 pub pull-ahead : (m : SampleReader) (chunk : List ℕ) (at : ℕ) (p : Pulled) → PulledRight m chunk at p → at < length chunk → at < p.next
-pull-ahead m chunk at p right h = go (is_row p.found) refl
+pull-ahead m chunk at p right h = go (is_some p.found) refl
   where
-    go : (b : Bool) → is_row p.found ≡ b → at < p.next
+    go : (b : Bool) → is_some p.found ≡ b → at < p.next
     go true e = right.onward e
     go false e = let k : p.next ≡ length chunk = right.exhausted e in omega arith
 

@@ -1,5 +1,5 @@
 -- How a file is cut into chunks changes nothing, of any calls that owe what the contracts of `feed` and `pull` say. Assumes nothing.
-use Rattle.std.specs.Prelude.{Some, Option}
+use Rattle.std.specs.Prelude.{Some, Option, is_some}
 use Prim.Native.Nat.{ℕ}
 use mathlib.Core.Path.{◌≡◌, refl, sym, ap, ◌∙◌}
 use mathlib.Core.Bool.{true}
@@ -11,7 +11,7 @@ use Rattle.rules.proofs.Tests.{never}
 use Rattle.sheet_stages.specs.declared.stage.Stage.{Stage}
 use Rattle.sample_rows.specs.declared.reader.SampleReader.{SampleReader}
 use Rattle.samples.specs.declared.check.SampleCheck.{SampleCheck}
-use Rattle.sheet_stages.specs.ToCome.{to_come, row_first, is_row, is_refused}
+use Rattle.sheet_stages.specs.ToCome.{to_come, row_first, is_refused}
 use Rattle.sample_rows.specs.Streamed.{yet_to_come, PulledRight, lines_after, begun_in}
 use Rattle.samples.specs.Streamed.{checked_with, spanned}
 use Rattle.rules.specs.Chunks.{joined, Feeds}
@@ -53,7 +53,7 @@ pulls-right {last = last} (Pulls.row {chunk = chunk} {chunks = chunks} {rows = r
     ∙ ap (λ (f : Option Sample). row_first f (yet_to_come p.reader (drop p.next chunk ++ joined chunks))) is
     ∙ ap (row_first (Some x)) (pulls-right rest)
 pulls-right {last = last} (Pulls.next {chunk = chunk} {chunks = chunks} {rows = rows} p one is rest) =
-    let e : p.next ≡ length chunk = one.exhausted (ap is_row is) in
+    let e : p.next ≡ length chunk = one.exhausted (ap is_some is) in
     let d : drop p.next chunk ++ joined chunks ≡ left_at 0 chunks =
     ap (λ (n : ℕ). drop n chunk ++ joined chunks) e ∙ ap (λ (l : List ℕ). l ++ joined chunks) (drop-length chunk) ∙ left-next chunks in
     one.rows (joined chunks)

@@ -1,5 +1,5 @@
 -- A line takes each stage to the next: what was to come is the row that it gave, and then what is to come. Assumes nothing.
-use Rattle.std.specs.Prelude.{if◌then◌else◌, Ok, Err, Some, None, Result, Option}
+use Rattle.std.specs.Prelude.{if◌then◌else◌, Ok, Err, Some, None, Result, Option, is_some}
 use Prim.Native.Nat.{ℕ, suc, min, ◌≤◌, ◌<◌}
 use mathlib.Core.Path.{◌≡◌, refl, sym, ap, subst, ◌∙◌}
 use mathlib.Core.Bool.{Bool, true, false}
@@ -19,7 +19,7 @@ use Rattle.sheet_stages.specs.declared.stage.Stage.{Stage}
 use Rattle.sheet_stages.specs.declared.stage.Turn.{Turn}
 use Rattle.sheet_headings.specs.Headings.{columns_of, headed_of}
 use Rattle.sheet.specs.Rows.{row_in}
-use Rattle.sheet_stages.specs.ToCome.{most_place, placed, samples_of, answer_from, row_before, RowsRead, longest, up_to_refused, to_come, row_first, end_of, is_row}
+use Rattle.sheet_stages.specs.ToCome.{most_place, placed, samples_of, answer_from, row_before, RowsRead, longest, up_to_refused, to_come, row_first, end_of}
 use Rattle.sheet_stages.specs.Stages.{waiting, after_later}
 use Rattle.sheet_stages.proofs.PlaceLaws.{refused-stays, row-place, heading-place, later-place}
 use Rattle.sheet_stages.proofs.UpToRefused.{line_read, line_refused, none_read, row-accepted}
@@ -153,7 +153,7 @@ none_yet (Stage.Refused _) = refl
 
 -- a line that gives a row leads to a stage that needs no further one
 abbrev Open : Turn → Type 0
-Open t = is_row t.found ≡ true → is_accepted (answer_from t.stage []) ≡ true
+Open t = is_some t.found ≡ true → is_accepted (answer_from t.stage []) ≡ true
 
 taken : (stage : Stage) (l : Line) (ls : List Line) (t : Turn) → ((p : List Line) → Answered stage l p t) → Open t → Taken stage l ls t
 unfolding to_come
@@ -243,7 +243,7 @@ pub end_refused : (r : Refusal) → end_of (Err r) ≡ to_come (Stage.Refused r)
 end_refused r = sym (refused-read r [])
 
 -- a row that a line gives is that of an accepted beginning
-pub row_ends : (stage after : Stage) (found : Option Sample) (l : Line) → ((ls : List Line) → to_come stage (l ∷ ls) ≡ row_first found (to_come after ls)) → is_row found ≡ true
+pub row_ends : (stage after : Stage) (found : Option Sample) (l : Line) → ((ls : List Line) → to_come stage (l ∷ ls) ≡ row_first found (to_come after ls)) → is_some found ≡ true
     → (to_come after []).verdict ≡ accepted tt
 unfolding to_come
 row_ends stage after (Some x) l leads h =

@@ -1,5 +1,5 @@
 -- The rows of the lines up to the first refused one: one line after the other, and that they are the paper's. Assumes nothing.
-use Rattle.std.specs.Prelude.{Some, None, Option}
+use Rattle.std.specs.Prelude.{Some, None, Option, is_some}
 use Prim.Native.Nat.{ℕ, suc}
 use mathlib.Core.Path.{◌≡◌, refl, sym, ap, ◌∙◌}
 use mathlib.Core.Bool.{true}
@@ -11,7 +11,7 @@ use Rattle.rules.specs.Answers.{Answer, accepted, refused, is_accepted, judged, 
 use Rattle.rules.specs.Lines.{Line}
 use Rattle.rules.proofs.Tests.{never}
 use Rattle.rules.proofs.Checks.{not-accepted, same-value}
-use Rattle.sheet_stages.specs.ToCome.{row_before, RowsRead, or_else, longest, up_to_refused, row_first, answer_of, all_read, is_row}
+use Rattle.sheet_stages.specs.ToCome.{row_before, RowsRead, or_else, longest, up_to_refused, row_first, answer_of, all_read}
 
 abbrev Answers : Type 0
 Answers = List Line → Answer (List Sample)
@@ -69,7 +69,7 @@ verdict-first : (found : Option Sample) (r : RowsRead) → (row_first found r).v
 verdict-first (Some x) r = refl
 verdict-first None r = refl
 
-rows-first : (found : Option Sample) (a none : Answer (List Sample)) (v : Answer (Unit {0})) → value_or [] none ≡ [] → (is_row found ≡ true → is_accepted a ≡ true)
+rows-first : (found : Option Sample) (a none : Answer (List Sample)) (v : Answer (Unit {0})) → value_or [] none ≡ [] → (is_some found ≡ true → is_accepted a ≡ true)
     → value_or [] (or_else (row_before found a) none) ≡ (row_first found (record { rows = value_or [] a; verdict = v })).rows
 rows-first (Some x) (accepted rows) none v e unrefused = refl
 rows-first (Some x) (refused number place) none v e unrefused = never (unrefused refl)
@@ -78,7 +78,7 @@ rows-first None (refused number place) none v e unrefused = e
 
 -- a line that gives a row is followed by lines of which none is needed
 pub line_read : (f g : Answers) (l : Line) (ls : List Line) (found : Option Sample) → ((p : List Line) → f (l ∷ p) ≡ row_before found (g p)) → value_or [] (f []) ≡ []
-    → (is_row found ≡ true → is_accepted (g []) ≡ true) → up_to_refused f (l ∷ ls) ≡ row_first found (up_to_refused g ls)
+    → (is_some found ≡ true → is_accepted (g []) ≡ true) → up_to_refused f (l ∷ ls) ≡ row_first found (up_to_refused g ls)
 unfolding up_to_refused longest
 line_read f g l ls found leads none unrefused =
     let a : longest (λ (p : List Line). f (l ∷ p)) ls ≡ row_before found (longest g ls) =

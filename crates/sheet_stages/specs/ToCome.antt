@@ -80,10 +80,6 @@ all_read rows = record { rows = rows; verdict = accepted tt }
 abbrev pub end_of : Result (Unit {0}) Refusal → RowsRead
 end_of v = record { rows = []; verdict = result_of v }
 
-abbrev pub is_row : Option Sample → Bool
-is_row (Some x) = true
-is_row None = false
-
 -- a line was refused, so that no rest of the file changes the answer
 abbrev pub is_refused : Stage → Bool
 is_refused Stage.Heading = false

@@ -1,7 +1,7 @@
 -- `rows_in_force::in_force::reach` meets its contract: the row in force and the rows to come are those of the call, held as they were. Assumes nothing.
+use Rattle.std.specs.Prelude.{is_some}
 use mathlib.Core.Path.{ap}
 use native.Mathlib.Omega.{arith}
-use Rattle.sheet_stages.specs.ToCome.{is_row}
 use Rattle.rows_in_force.proofs.HeldLaws.{reaching-start, reaching-more, not-reached, reached}
 use Rattle.rows_in_force.proofs.in_force.reach.Goals as goal
 
@@ -14,7 +14,7 @@ returns-in_default c =
     not-reached a.told.begun a.line.now _ _ _ _ _ _ _ _ (c.loop-known.invariant a.told.now a.told.ahead a.told.next c.lesser-next.ensures c.comes_in-known.ensures) c.next_row-further.result c.next_row-further.ensures c.loop-known-test.true c.in_default.is
 
 pub loop-known-smaller : goal.loop-known-smaller
-loop-known-smaller c = let o = c.next_row-further.ensures.onward (ap is_row c.in-Some.is) in omega (arith, o, c.next_row-further.ensures.within)
+loop-known-smaller c = let o = c.next_row-further.ensures.onward (ap is_some c.in-Some.is) in omega (arith, o, c.next_row-further.ensures.within)
 
 pub loop-known-preserved : goal.loop-known-preserved
 loop-known-preserved c =

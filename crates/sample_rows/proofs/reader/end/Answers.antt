@@ -19,7 +19,7 @@ unfolding yet_to_come
 returns-then-len-eq0 c =
     let m = c.args.reader in
     let size : length m.line ≡ 512 = c.well_formed.0.1.1.0.1.0.1 in
-    let held = held-is m.line [] m.len c.lesser-len.result size c.lesser-len.ensures in
+    let held = held-is m.line [] m.len c.min-len.result size c.min-len.ensures in
     let none = sym held ∙ ap (λ (n : ℕ). take n m.line) c.if-len-eq0.true in
     c.ended_at.ensures ∙ sym (ap (to_come m.stage) (ap (λ (s : List ℕ). lines_after s []) none ∙ line-at-end []))
 
@@ -40,9 +40,9 @@ pub returns : goal.returns
 unfolding yet_to_come
 returns c =
     let m = c.args.reader in
-    let n = c.lesser-len.result in
+    let n = c.min-len.result in
     let size : length m.line ≡ 512 = c.well_formed.0.1.1.0.1.0.1 in
-    let held = held-is m.line [] m.len n size c.lesser-len.ensures in
+    let held = held-is m.line [] m.len n size c.min-len.ensures in
     let whole : length (take n m.line) ≡ n = simp length-take (omega arith) in
     let last = last_line (take n m.line) (omega arith) in
     c.ended_at-2.ensures ∙ sym (c.whole_line.ensures []) ∙ sym (ap (to_come m.stage) (ap (λ (s : List ℕ). lines_after s []) (sym held) ∙ last))

@@ -1,12 +1,12 @@
 -- `sample_rows::reader::ended_at` meets its contract. Assumes nothing.
-use Rattle.sample_rows.proofs.LineLaws.{ending-refused, ending-row, ending-nothing}
+use Rattle.std.proofs.lemmas.Result.{err_from_is_err_and}
+use Rattle.sample_rows.proofs.LineLaws.{ending-refused, ending-told}
 use Rattle.sample_rows.proofs.reader.ended_at.Goals as goal
 
-pub returns-in-Err : goal.returns-in-Err
-returns-in-Err c = ending-refused c.args.turn.found _ _ _ c.in-Err.is c.verdict_at-verdict.ensures c.requires
+pub returns-in_err-verdict_at : goal.returns-in_err-verdict_at
+returns-in_err-verdict_at c =
+    let p = err_from_is_err_and c.from_residual.result c.from_residual.ensures.1 in
+    rw (p.1, p.2) (ending-refused c.args.turn.found _ _ _ c.in_err-verdict_at.was c.verdict_at.ensures c.requires)
 
-pub returns-in-Some : goal.returns-in-Some
-returns-in-Some c = ending-row _ _ _ _ c.in-Some.is c.in_default.is c.verdict_at-verdict.ensures
-
-pub returns-in-None : goal.returns-in-None
-returns-in-None c = ending-nothing _ _ _ c.in-None.is c.in_default.is c.verdict_at-verdict.ensures
+pub returns : goal.returns
+returns c = ending-told c.args.turn.found _ _ c.in_ok-verdict_at.was c.verdict_at.ensures

@@ -1,36 +1,26 @@
 -- `sample_rows::reader::extended_by` meets its contract. Assumes nothing.
+use Prim.Native.Nat.{◌+◌}
 use mathlib.Core.Path.{◌≡◌, ap, ◌∙◌}
+use mathlib.Core.List.{◌++◌}
 use native.Mathlib.Omega.{arith}
-use lib.ListN.{length}
-use lib.Seq.{paste-zero, length-paste}
-use Rattle.rules.proofs.Tests.{never}
-use Rattle.sample_rows.proofs.LineLaws.{copy-turn, whole-fits, whole-over, whole_is}
+use lib.ListN.{length, take}
+use Rattle.std.proofs.lemmas.Slice.{take-put_mid}
+use Rattle.sample_rows.proofs.LineLaws.{held-is, whole-over}
 use Rattle.sample_rows.proofs.reader.extended_by.Goals as goal
 
 pub returns-then-held-more : goal.returns-then-held-more
 returns-then-held-more c =
-    let a = c.args in
-    let over = whole-over a.line a.more.now a.len c.lesser-held.result (omega arith) c.lesser-held.ensures (omega arith) in
-    record { fits_value = over; line_value = (λ fits. never fits, omega arith, omega arith) }
-
-pub loop-i-init : goal.loop-i-init
-loop-i-init c =
-    let a = c.args in
-    (omega arith, omega arith, omega arith, paste-zero a.line c.lesser-held.result a.more.now)
-
-pub loop-i-preserved : goal.loop-i-preserved
-loop-i-preserved c =
-    let l = c.loop-i in
-    (omega arith, l.invariant.1, l.invariant.2, copy-turn _ _ _ _ l.i l.invariant.3 (omega arith) (omega arith))
+    let size : length c.args.line ≡ 512 = omega arith in
+    whole-over c.args.line c.args.more.now c.args.len c.min-held.result size c.min-held.ensures (omega arith)
 
 pub returns : goal.returns
 returns c =
-    let a = c.args in
-    let l = c.loop-i in
-    let held = c.lesser-held.result in
-    let least = c.lesser-held.ensures in
-    let all : l.i ≡ length a.more.now = omega arith in
-    let fits = whole-fits a.line a.more.now a.len held l.invariant.2 least l.invariant.1 in
-    let is = whole_is a.line a.more.now a.len held l.invariant.2 least l.whole l.i l.invariant.3 all in
-    let size = ap length l.invariant.3 ∙ length-paste a.line held a.more.now l.i (omega arith) (omega arith) ∙ l.invariant.2 in
-    record { fits_value = fits; line_value = (λ true. is, omega arith, size) }
+    let line = c.args.line in
+    let more = c.args.more.now in
+    let held = c.min-held.result in
+    let new = c.copy_from_slice.new.self in
+    let size : length line ≡ 512 = omega arith in
+    let same : new ≡ more = c.copy_from_slice.ensures.after in
+    let ends : held + length more ≡ held + length new = rw same in
+    let put = take-put_mid held _ line new (held + length more) ends (omega arith) in
+    (put ∙ ap (λ l. l ++ new) (held-is line more c.args.len held size c.min-held.ensures) ∙ ap (λ l. take c.args.len line ++ l) same, omega arith)

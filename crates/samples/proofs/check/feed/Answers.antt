@@ -1,4 +1,5 @@
 -- `samples::check::feed` meets its contract. Assumes nothing.
+use Rattle.std.specs.Prelude.{is_some}
 use Prim.Native.Nat.{ℕ}
 use mathlib.Core.List.{List, ◌++◌}
 use mathlib.Core.Path.{refl, sym, ap, ◌∙◌}
@@ -6,7 +7,6 @@ use native.Mathlib.Omega.{arith}
 use lib.ListN.{drop, drop_of_length-le}
 use Rattle.sample_rows.specs.declared.reader.SampleReader.{SampleReader}
 use Rattle.samples.specs.declared.check.Span.{Span}
-use Rattle.sheet_stages.specs.ToCome.{is_row}
 use Rattle.sample_rows.specs.Streamed.{yet_to_come}
 use Rattle.samples.specs.Streamed.{spanned, checked_with}
 use Rattle.sample_rows.proofs.LineLaws.{kept_whole, at_end_of}
@@ -26,12 +26,12 @@ returns-in_default c =
     let begun : SampleReader = record { line = line; len = c.next_row-row.result.len; stage = c.next_row-row.result.stage } in
     λ rest. c.loop-at.invariant.1 rest
     ∙ u.rows rest
-    ∙ ap (spanned c.usual_rows_at-usual.result.span) (rw c.in_default.is at (n.rows rest) ∙ kept_whole s c.next_row-row.result.next begun c.kept.result rest (n.further (ap is_row c.in_default.is)) c.kept.ensures ∙ at_end_of s c.kept.result rest)
+    ∙ ap (spanned c.usual_rows_at-usual.result.span) (rw c.in_default.is at (n.rows rest) ∙ kept_whole s c.next_row-row.result.next begun c.kept.result rest (n.further (ap is_some c.in_default.is)) c.kept.ensures ∙ at_end_of s c.kept.result rest)
 
 pub loop-at-smaller : goal.loop-at-smaller
 loop-at-smaller c =
     let n = c.next_row-row.ensures in
-    omega (arith, n.onward (ap is_row c.in-Some.is), n.within, (c.usual_rows_at-usual.ensures c.args.check.reader.line).onward)
+    omega (arith, n.onward (ap is_some c.in-Some.is), n.within, (c.usual_rows_at-usual.ensures c.args.check.reader.line).onward)
 
 pub loop-at-preserved : goal.loop-at-preserved
 unfolding yet_to_come
