@@ -10,7 +10,6 @@ use crate::usual_seconds::usual_seconds;
 use input_source::source::{InputSource, source_refused};
 use rows_in_force::in_force::{Begun, FillState, Reached, reach};
 use sample_rows::reader::{SampleReader, kept};
-use words::arithmetic::{lesser, wide};
 
 // So many seconds were told; the chunk is to be read on at `next`.
 #[derive(Clone, Copy)]
@@ -125,10 +124,10 @@ fn fill_seconds(
     requires { (first ≤ 4294967295) × (source_refused source ≡ false) }
     ensures { FilledRight source first chunk.now at loads.old solars.old sheddables.old result loads.new solars.new sheddables.new }
 {
-    let places = lesser(loads.len(), lesser(solars.len(), sheddables.len()));
+    let places = loads.len().min(solars.len().min(sheddables.len()));
     let reader = source.reader;
     let line = reader.line;
-    let mut told = fill_begun(source, lesser(at, chunk.len()));
+    let mut told = fill_begun(source, at.min(chunk.len()));
     while told.seconds < places {
         let usual = usual_seconds(told, first, places, chunk, loads, solars, sheddables);
         let i = usual.seconds;
@@ -163,6 +162,13 @@ pub fn fill(
             seconds: 0,
         };
     }
-    let first = wide(second);
-    fill_seconds(source, first, chunk, at, loads, solars, sheddables)
+    fill_seconds(
+        source,
+        second as usize,
+        chunk,
+        at,
+        loads,
+        solars,
+        sheddables,
+    )
 }

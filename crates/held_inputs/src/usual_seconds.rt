@@ -6,8 +6,7 @@ use rows_in_force::in_force::{Ahead, Begun, FillState};
 use rules::samples::Sample;
 use sheet_headings::headings::Columns;
 use sheet_stages::stage::{Stage, next_line};
-use usual_rows::usual::{Usual, usual_later};
-use words::arithmetic::wide;
+use usual_rows::usual::usual_later;
 
 // The row in force and the next one, the last that was read, after so many lines.
 fn fill_state_at(
@@ -63,21 +62,20 @@ fn fill_usual(
     let mut next = at;
     let mut i = from;
     while i < places {
-        if first + i < wide(row.at) {
+        if first + i < row.at as usize {
             loads[i] = now.load;
             solars[i] = now.solar;
             sheddables[i] = now.sheddable;
             i += 1;
             continue;
         }
-        let usual = usual_later(columns, row.at, chunk, next);
-        let Usual::Row(sample, after) = usual else {
+        let Some(later) = usual_later(columns, row.at, chunk, next) else {
             return fill_state_at(columns, line, now, row, next, i);
         };
         line = next_line(line);
         now = row;
-        row = sample;
-        next = after;
+        row = later.sample;
+        next = later.next;
     }
     fill_state_at(columns, line, now, row, next, i)
 }
@@ -95,26 +93,19 @@ pub(crate) fn usual_seconds(
     requires { (first ≤ 4294967295) × (places ≤ places_of loads.old solars.old sheddables.old) }
     ensures { GoesOn told first places chunk.now loads.old solars.old sheddables.old result loads.new solars.new sheddables.new }
 {
-    let begun = told.begun;
-    let stage = begun.stage;
-    let ahead = told.ahead;
-    let now = told.now;
-    let Stage::LaterRows(columns, last, lines) = stage else {
+    let Stage::LaterRows(columns, last, lines) = told.begun.stage else {
         return told;
     };
-    let Ahead::Next(row) = ahead else {
+    let Ahead::Next(row) = told.ahead else {
         return told;
     };
-    if 0 < begun.len {
-        return told;
-    }
-    if last != row.at {
+    if 0 < told.begun.len || last != row.at {
         return told;
     }
     let rows = UsualRows {
         columns,
         lines,
-        held: now,
+        held: told.now,
         ahead: row,
     };
     fill_usual(

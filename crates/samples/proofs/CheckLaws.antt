@@ -27,13 +27,6 @@ unfolding span_after
 found-counted s (Some x) r = refl
 found-counted s None r = refl
 
--- one more, up to what 64 bits hold
-pub one_more_lem : (rows : ℕ) → rows < most_place → rows + 1 ≡ min (suc rows) most_place
-one_more_lem rows h = omega arith
-
-pub no_more : (rows : ℕ) → most_place ≤ rows → rows ≤ most_place → rows ≡ min (suc rows) most_place
-no_more rows h k = omega arith
-
 -- from nothing, what is counted is the number of rows and the time of the last
 counted : (rows : List Sample) (n last : ℕ) → n ≤ most_place → span_after (record { rows = n; last = last }) rows ≡ record { rows = min (n + length rows) most_place; last = last_time last rows }
 unfolding span_after last_time
@@ -81,14 +74,10 @@ span-judged s = go (sample_file s)
     go (refused number place) = refl
 
 module _ (c : SampleCheck) where
-  module _ (x : Sample) (e : Result (Option Sample) Refusal) where
-    pub last_row : ending_of e ≡ yet_to_come c.reader [] → e ≡ (Ok (Some x)) → accepted (one_more c.span (Some x)) ≡ checked_with c []
-    unfolding checked_with span_after
-    last_row h is = ap (λ (e : Result (Option Sample) Refusal). spanned c.span (ending_of e)) (sym is) ∙ ap (spanned c.span) h
-
-  pub no_row : (e : Result (Option Sample) Refusal) → ending_of e ≡ yet_to_come c.reader [] → e ≡ Ok None → accepted c.span ≡ checked_with c []
+  pub last-told : (found : Option Sample) (e : Result (Option Sample) Refusal) → ending_of e ≡ yet_to_come c.reader [] → e ≡ Ok found → accepted (one_more c.span found) ≡ checked_with c []
   unfolding checked_with span_after
-  no_row e h is = ap (λ (e : Result (Option Sample) Refusal). spanned c.span (ending_of e)) (sym is) ∙ ap (spanned c.span) h
+  last-told (Some x) e h is = ap (λ (e : Result (Option Sample) Refusal). spanned c.span (ending_of e)) (sym is) ∙ ap (spanned c.span) h
+  last-told None e h is = ap (λ (e : Result (Option Sample) Refusal). spanned c.span (ending_of e)) (sym is) ∙ ap (spanned c.span) h
 
   pub refused_end : (r : Refusal) (e : Result (Option Sample) Refusal) → ending_of e ≡ yet_to_come c.reader [] → e ≡ Err r → refusal_of r ≡ checked_with c []
   unfolding checked_with

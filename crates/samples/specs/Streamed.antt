@@ -1,8 +1,8 @@
 -- The sample file in chunks: what a check that holds the beginning of a file comes to with any rest of it.
 -- What a call owes is stated over every rest, so that calls chain: `proofs/Chunks.antt` has the theorem over lists of chunks.
-use Rattle.std.specs.Prelude.{ℕ, suc, min, ◌≤◌, ◌≡◌, List, [], ◌∷◌, ◌++◌, length, drop, Ok, Err, Some, None, Result, Option}
+use Rattle.std.specs.Prelude.{ℕ, suc, min, ◌≤◌, ◌≡◌, List, [], ◌∷◌, ◌++◌, length, drop, Some, None, Option}
 use Rattle.rules.specs.declared.samples.Sample.{Sample}
-use Rattle.rules.specs.Answers.{Answer, accepted, refusal_of, ◌>>=◌, ◌>>◌}
+use Rattle.rules.specs.Answers.{Answer, accepted, ◌>>=◌, ◌>>◌}
 use Rattle.rules.specs.SampleFile.{sample_file}
 use Rattle.sheet_stages.specs.declared.stage.Stage.{Stage}
 use Rattle.samples.specs.declared.check.Span.{Span}
@@ -10,7 +10,6 @@ use Rattle.samples.specs.declared.check.SampleCheck.{SampleCheck}
 use Rattle.samples.specs.declared.check.RowsCounted.{RowsCounted}
 use Rattle.sheet_stages.specs.ToCome.{most_place, RowsRead, to_come}
 use Rattle.sample_rows.specs.Streamed.{lines_after, yet_to_come}
-use Rattle.rules.specs.declared.answers.Refusal.{Refusal}
 
 -- the time of the last of these rows, and `at` where there is none
 unfoldable pub last_time : ℕ → List Sample → ℕ

@@ -4,12 +4,12 @@ ghost use Rattle.rules.specs.Answers.{result_of};
 ghost use Rattle.sheet_stages.specs.ToCome.{placed, is_refused};
 ghost use Rattle.samples.specs.Streamed.{one_more, CountedOn, sheet_span, checked_with};
 
-use rules::samples::Sample;
 use rules::answers::Refusal;
+use rules::samples::Sample;
 use sample_rows::reader::{SampleReader, end, kept, next_row, reader};
 use sheet_headings::headings::Columns;
 use sheet_stages::stage::{Stage, line_refused, next_line};
-use usual_rows::usual::{Usual, usual_later};
+use usual_rows::usual::usual_later;
 
 // How many rows were accepted, and the time of the last.
 #[derive(Clone, Copy)]
@@ -28,18 +28,11 @@ fn counted(span: Span, found: Option<Sample>) -> Span
     ensures { result ≡ one_more span found }
 {
     match found {
+        Some(row) => Span {
+            rows: span.rows.saturating_add(1),
+            last: row.at,
+        },
         None => span,
-        Some(row) => {
-            let rows = span.rows;
-            let last = row.at;
-            if rows < u64::MAX {
-                return Span {
-                    rows: rows + 1,
-                    last,
-                };
-            }
-            Span { rows, last }
-        }
     }
 }
 
@@ -78,20 +71,12 @@ fn usual_rows(
     let mut rows = span.rows;
     let mut time = span.last;
     let mut next = at;
-    while next < chunk.len() {
-        let usual = usual_later(columns, latest, chunk, next);
-        let Usual::Row(sample, after) = usual else {
-            return RowsCounted {
-                stage: Stage::LaterRows(columns, latest, line),
-                span: Span { rows, last: time },
-                next,
-            };
-        };
-        latest = sample.at;
+    while let Some(row) = usual_later(columns, latest, chunk, next) {
+        latest = row.sample.at;
         line = next_line(line);
         rows = next_line(rows);
         time = latest;
-        next = after;
+        next = row.next;
     }
     RowsCounted {
         stage: Stage::LaterRows(columns, latest, line),
@@ -134,18 +119,17 @@ pub fn feed(check: SampleCheck, chunk: &[u8]) -> SampleCheck
         span = usual.span;
         at = usual.next;
         let row = next_row(stage, &line, len, chunk, at);
-        let found = row.found;
         stage = row.stage;
         len = row.len;
         at = row.next;
-        let Some(_) = found else {
+        if row.found.is_none() {
             let begun = SampleReader { line, len, stage };
             return SampleCheck {
                 reader: kept(begun, &chunk[at..]),
                 span,
             };
-        };
-        span = counted(span, found);
+        }
+        span = counted(span, row.found);
     }
     SampleCheck {
         reader: SampleReader { line, len, stage },
@@ -157,22 +141,15 @@ pub fn feed(check: SampleCheck, chunk: &[u8]) -> SampleCheck
 pub fn finish(check: SampleCheck) -> Result<Span, Refusal>
     ensures { result_of result ≡ checked_with check [] }
 {
-    let reader = check.reader;
-    let span = check.span;
-    match end(reader) {
-        Ok(Some(row)) => Ok(counted(span, Some(row))),
-        Ok(None) => Ok(span),
-        Err(refusal) => Err(refusal),
-    }
+    let last = end(check.reader)?;
+    Ok(counted(check.span, last))
 }
 
 // Whether a line was refused, so that the rest of the file needs no reading.
 pub fn is_refused(check: SampleCheck) -> bool
     ensures { result ≡ is_refused check.reader.stage }
 {
-    let reader = check.reader;
-    let stage = reader.stage;
-    line_refused(stage)
+    line_refused(check.reader.stage)
 }
 
 // A file that is there as a whole.

@@ -10,7 +10,7 @@ returns-then-source_refused c =
     filled_none a.source a.second a.chunk.now a.at a.loads.now a.solars.now a.sheddables.now (sym c.source_refused.ensures ∙ c.if-source_refused.true)
 
 pub fill_seconds-requires : goal.fill_seconds-requires
-fill_seconds-requires c = (omega (arith, c.wide-first.ensures.upper_bound), sym c.source_refused.ensures ∙ c.if-source_refused.false)
+fill_seconds-requires c = (omega arith, sym c.source_refused.ensures ∙ c.if-source_refused.false)
 
 pub returns : goal.returns
-returns c = rw c.wide-first.ensures.value at c.fill_seconds.ensures
+returns c = c.fill_seconds.ensures

@@ -12,7 +12,7 @@ use Rattle.held_inputs.proofs.fill.fill_seconds.Goals as goal
 pub loop-told-init : goal.loop-told-init
 loop-told-init c =
     let a = c.args in
-    (rw (c.lesser-places.ensures, c.lesser.ensures), rw c.fill_begun-told.ensures (filling-start a.source a.first a.chunk.now a.at a.loads.now a.solars.now a.sheddables.now _ c.lesser-2.ensures))
+    (rw (c.min-places.ensures, c.min.ensures), rw c.fill_begun-told.ensures (filling-start a.source a.first a.chunk.now a.at a.loads.now a.solars.now a.sheddables.now _ c.min-2.ensures))
 
 pub usual_seconds-usual-requires : goal.usual_seconds-usual-requires
 usual_seconds-usual-requires c =

@@ -31,7 +31,7 @@ bounds-sheddables-i c = omega (arith, c.requires.1, c.loop-i-test.true, c.loop-i
 pub loop-i-preserved-then-first-i : goal.loop-i-preserved-then-first-i
 loop-i-preserved-then-first-i c =
     let a = c.args in
-    second-told _ a.first a.places a.chunk.now a.loads.now a.solars.now a.sheddables.now a.rows.columns c.loop-i.line c.loop-i.now c.loop-i.row c.loop-i.next c.loop-i.i c.loop-i.loads c.loop-i.solars c.loop-i.sheddables c.loop-i.invariant (omega (arith, c.if-first-i.true, c.wide.ensures.value)) c.loop-i-test.true
+    second-told _ a.first a.places a.chunk.now a.loads.now a.solars.now a.sheddables.now a.rows.columns c.loop-i.line c.loop-i.now c.loop-i.row c.loop-i.next c.loop-i.i c.loop-i.loads c.loop-i.solars c.loop-i.sheddables c.loop-i.invariant (omega (arith, c.if-first-i.true)) c.loop-i-test.true
 
 pub shape_of-loads-in_default : goal.shape_of-loads-in_default
 shape_of-loads-in_default c = c.loop-i.invariant.same_loads
@@ -48,14 +48,14 @@ returns-in_default c = rw c.fill_state_at.ensures c.loop-i.invariant
 pub loop-i-smaller : goal.loop-i-smaller
 loop-i-smaller c =
     let a = c.args in
-    let u : UsualLater a.rows.columns c.loop-i.row.at a.chunk.now c.loop-i.next c.in-Row.sample c.in-Row.after = rw c.in-Row.is at c.usual_later-usual.ensures in
+    let u : UsualLater a.rows.columns c.loop-i.row.at a.chunk.now c.loop-i.next c.in-Some.later.sample c.in-Some.later.next = rw c.in-Some.is at c.usual_later.ensures in
     omega (arith, u.right.onward, u.right.within)
 
 pub loop-i-preserved : goal.loop-i-preserved
 loop-i-preserved c =
     let a = c.args in
-    let u : UsualLater a.rows.columns c.loop-i.row.at a.chunk.now c.loop-i.next c.in-Row.sample c.in-Row.after = rw c.in-Row.is at c.usual_later-usual.ensures in
-    rw c.next_line-line.ensures (row_told _ a.first a.places a.chunk.now a.loads.now a.solars.now a.sheddables.now a.rows.columns c.loop-i.line c.loop-i.now c.loop-i.row c.loop-i.next c.loop-i.i c.loop-i.loads c.loop-i.solars c.loop-i.sheddables c.loop-i.invariant (omega (arith, c.if-first-i.false, c.wide.ensures.value)) c.in-Row.sample c.in-Row.after u)
+    let u : UsualLater a.rows.columns c.loop-i.row.at a.chunk.now c.loop-i.next c.in-Some.later.sample c.in-Some.later.next = rw c.in-Some.is at c.usual_later.ensures in
+    rw c.next_line-line.ensures (row_told _ a.first a.places a.chunk.now a.loads.now a.solars.now a.sheddables.now a.rows.columns c.loop-i.line c.loop-i.now c.loop-i.row c.loop-i.next c.loop-i.i c.loop-i.loads c.loop-i.solars c.loop-i.sheddables c.loop-i.invariant (omega (arith, c.if-first-i.false)) c.in-Some.later.sample c.in-Some.later.next u)
 
 pub shape_of-loads : goal.shape_of-loads
 shape_of-loads c = c.loop-i.invariant.same_loads

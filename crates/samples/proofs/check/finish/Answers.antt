@@ -1,17 +1,14 @@
 -- `samples::check::finish` meets its contract. Assumes nothing.
 use mathlib.Core.Path.{ap, ◌∙◌}
+use Rattle.std.proofs.lemmas.Result.{err_from_is_err_and}
 use Rattle.rules.specs.Answers.{accepted}
-use Rattle.samples.proofs.CheckLaws.{last_row, no_row, refused_end}
+use Rattle.samples.proofs.CheckLaws.{last-told, refused_end}
 use Rattle.samples.proofs.check.finish.Goals as goal
 
-pub returns-in-Ok-Some : goal.returns-in-Ok-Some
-returns-in-Ok-Some c =
-    ap accepted c.counted.ensures ∙ last_row c.args.check _ _ c.end.ensures (rw c.in-Ok-Some.field-0-is at c.in-Ok-Some.is)
+pub returns-in_err-last : goal.returns-in_err-last
+returns-in_err-last c =
+    let p = err_from_is_err_and c.from_residual.result c.from_residual.ensures.1 in
+    rw (p.1, p.2) (refused_end c.args.check _ _ c.end.ensures c.in_err-last.was)
 
-pub returns-in-Ok-None : goal.returns-in-Ok-None
-returns-in-Ok-None c =
-    no_row c.args.check _ c.end.ensures (rw c.in-Ok-None.field-0-is at c.in-Ok-None.is)
-
-pub returns-in-Err : goal.returns-in-Err
-returns-in-Err c =
-    refused_end c.args.check _ _ c.end.ensures c.in-Err.is
+pub returns : goal.returns
+returns c = ap accepted c.counted.ensures ∙ last-told c.args.check _ _ c.end.ensures c.in_ok-last.was

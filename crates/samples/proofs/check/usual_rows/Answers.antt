@@ -3,24 +3,22 @@ use native.Mathlib.Omega.{arith}
 use Rattle.usual_rows.specs.Usual.{UsualLater}
 use Rattle.samples.proofs.UsualRows.{none-counted, row-counted}
 use Rattle.samples.proofs.check.usual_rows.Goals as goal
+use Rattle.samples.proofs.check.usual_rows.Goals.{In-Some}
 
-pub loop-next-init : goal.loop-next-init
-loop-next-init c = none-counted _ _ _ c.args.chunk.now _
+later : (c : In-Some) → UsualLater c.args.columns c.loop-row.latest c.args.chunk.now c.loop-row.next c.in-Some.row.sample c.in-Some.row.next
+later c = rw c.in-Some.is at c.usual_later.ensures
 
-pub returns-in_default : goal.returns-in_default
-returns-in_default c = c.loop-next.invariant
+pub loop-row-init : goal.loop-row-init
+loop-row-init c = none-counted _ _ _ c.args.chunk.now _
 
-pub loop-next-smaller : goal.loop-next-smaller
-loop-next-smaller c =
+pub loop-row-smaller : goal.loop-row-smaller
+loop-row-smaller c = let u = (later (goal.at.loop-row-smaller c).In-Some).right in omega (arith, u.onward, u.within)
+
+pub loop-row-preserved : goal.loop-row-preserved
+loop-row-preserved c =
     let a = c.args in
-    let u : UsualLater a.columns c.loop-next.latest a.chunk.now c.loop-next.next c.in-Row.sample c.in-Row.after = rw c.in-Row.is at c.usual_later-usual.ensures in
-    omega (arith, u.right.onward, u.right.within)
-
-pub loop-next-preserved : goal.loop-next-preserved
-loop-next-preserved c =
-    let a = c.args in
-    let u : UsualLater a.columns c.loop-next.latest a.chunk.now c.loop-next.next c.in-Row.sample c.in-Row.after = rw c.in-Row.is at c.usual_later-usual.ensures in
-    rw (c.next_line-line.ensures, c.next_line-rows.ensures) (row-counted _ _ a.chunk.now _ a.columns c.loop-next.latest c.loop-next.line c.loop-next.rows c.loop-next.time c.loop-next.next c.loop-next.invariant c.in-Row.sample c.in-Row.after u)
+    let l = c.loop-row in
+    rw (c.next_line-line.ensures, c.next_line-rows.ensures) (row-counted _ _ a.chunk.now _ a.columns l.latest l.line l.rows l.time l.next l.invariant c.in-Some.row.sample c.in-Some.row.next (later (goal.at.loop-row-preserved c).In-Some))
 
 pub returns : goal.returns
-returns c = c.loop-next.invariant
+returns c = c.loop-row.invariant
