@@ -8,7 +8,7 @@ use modes::mode::is_on;
 use rules::run::{Mode, SetState};
 use rules::station::GenSet;
 use std::array::from_fn;
-use words::masks::next_set;
+use words::masks::places_of;
 
 // "go Warming, one start"
 fn start_set(genset: GenSet, state: SetState) -> SetState
@@ -82,13 +82,10 @@ pub fn has_set(mask: u32, place: usize) -> bool
 pub fn every_on(states: [SetState; 8], mask: u32) -> bool
     ensures { result ≡ every_on states mask }
 {
-    let mut place = next_set(mask, 0);
-    while place < 8 {
-        let at = place as usize;
-        if !is_on(states[at].mode) {
+    for place in places_of(mask) {
+        if !is_on(states[place].mode) {
             return false;
         }
-        place = next_set(mask, place + 1);
     }
     true
 }

@@ -8,7 +8,7 @@ use gensets::fuel::{fuel_rate, per_hour};
 use gensets::share::{shares, watts_of};
 use rules::run::SetState;
 use rules::station::GenSet;
-use words::masks::next_set;
+use words::masks::places_of;
 
 // What a set burns in a second; one that no file gives has no rate.
 fn burned(genset: GenSet, power: u32) -> u64
@@ -36,11 +36,8 @@ pub fn count_all(sets: [GenSet; 8], states: [SetState; 8], mask: u32, diesel: u3
 {
     let watts = watts_of(shares(sets, mask, diesel));
     let mut out = states;
-    let mut place = next_set(mask, 0);
-    while place < 8 {
-        let at = place as usize;
-        out[at] = count(sets[at], out[at], watts[at]);
-        place = next_set(mask, place + 1);
+    for place in places_of(mask) {
+        out[place] = count(sets[place], out[place], watts[place]);
     }
     out
 }

@@ -6,7 +6,7 @@ use Rattle.rules.specs.Modes.{state_at, is_on}
 use Rattle.rules.specs.Commands.{every_on}
 use Rattle.rules.proofs.Tests.{never, and-true, to_at}
 use Rattle.words.specs.Masks.{next_set}
-use Rattle.words.proofs.Walk.{place, forward}
+use Rattle.words.proofs.Walk.{place, standing-start, turn, walk_over}
 use Rattle.set_moves.proofs.PassedBy.{to-next}
 use Rattle.set_moves.proofs.commands.every_on.Invariants.{Asking, ready}
 use Rattle.set_moves.proofs.commands.every_on.Goals as goal
@@ -45,23 +45,24 @@ module _ {states : List SetState} {mask : ℕ} where
     all_are l = let e : i ≡ 8 = omega (arith, now.at.range) in sym (rw e at now.told)
 
 pub loop-place-init : goal.loop-place-init
-loop-place-init c = rw c.next_set-place.ensures asking-start
+loop-place-init c =
+    rw (c.into_iter-place-iterator.ensures.into_iter_gives, c.places_of-place-items.ensures) (record { stands = standing-start c.args.mask; asking = asking-start })
 
 pub returns-then-not-is_on : goal.returns-then-not-is_on
 unfolding state_at
 returns-then-not-is_on c =
-    let at = c.loop-place in
-    one-is-not at.invariant c.loop-place-test.true (sym c.is_on.ensures ∙ c.if-not-is_on.true)
-
-pub loop-place-smaller : goal.loop-place-smaller
-loop-place-smaller c = omega (arith, forward _ _ _ c.next_set-place-in-loop-place.ensures)
+    let i = c.loop-place.invariant in
+    let t = turn c.args.mask c.next.new.self i.stands c.in-Some.ensures.steps in
+    one-is-not (rw (← t.here) at i.asking) t.inside (sym c.is_on.ensures ∙ c.if-not-is_on.true)
 
 pub loop-place-preserved : goal.loop-place-preserved
 unfolding state_at
 loop-place-preserved c =
-    let at = c.loop-place in
-    let on = sym c.is_on.ensures ∙ c.if-not-is_on.false in
-    rw c.next_set-place-in-loop-place.ensures (asking-more at.invariant c.loop-place-test.true on)
+    let i = c.loop-place.invariant in
+    let t = turn c.args.mask c.next.new.self i.stands c.in-Some.ensures.steps in
+    rw t.on (record { stands = t.standing; asking = asking-more (rw (← t.here) at i.asking) t.inside (sym c.is_on.ensures ∙ c.if-not-is_on.false) })
 
 pub returns : goal.returns
-returns c = all_are c.loop-place.invariant (omega arith)
+returns c =
+    let i = c.loop-place.invariant in
+    all_are i.asking (walk_over c.args.mask c.next.new.self i.stands c.in-None.ensures.steps)

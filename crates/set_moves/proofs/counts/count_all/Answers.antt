@@ -8,7 +8,7 @@ use Rattle.rules.specs.Numbers.{has}
 use Rattle.rules.specs.StationRecord.{past_end, set_at}
 use Rattle.rules.specs.Modes.{fresh, state_at}
 use Rattle.words.specs.Masks.{next_set}
-use Rattle.words.proofs.Walk.{Place, place, forward}
+use Rattle.words.proofs.Walk.{Place, standing-start, turn, walk_over}
 use Rattle.gensets.specs.Leaves.{shares_told, watts_of}
 use Rattle.modes.proofs.Filled.{filling-start, filling-at, filling-more, filling-whole}
 use Rattle.set_moves.specs.InType.{counted_in, counted_at, counted_all_in}
@@ -36,26 +36,28 @@ module _ (sets : List GenSet) (states : List SetState) (mask diesel : ℕ) where
 
 pub loop-place-init : goal.loop-place-init
 loop-place-init c =
-    let a = c.args in (
-      c.watts_of-watts.ensures ∙ ap watts_of c.shares.ensures,
-      rw c.next_set-place.ensures (place a.mask 0 zero-le),
-      rw c.next_set-place.ensures (up-to-next a.sets a.states a.mask a.diesel a.states 0 zero-le (filling-start _ _ 8 (search rules))),
-    )
-
-pub loop-place-smaller : goal.loop-place-smaller
-loop-place-smaller c = omega (arith, forward _ _ _ c.next_set-place-in-loop-place.ensures)
+    let a = c.args in
+    rw (c.into_iter-place-iterator.ensures.into_iter_gives, c.places_of-place-items.ensures) (record {
+      shared = c.watts_of-watts.ensures ∙ ap watts_of c.shares.ensures;
+      stands = standing-start a.mask;
+      counts = up-to-next a.sets a.states a.mask a.diesel a.states 0 zero-le (filling-start _ _ 8 (search rules));
+    })
 
 pub loop-place-preserved : goal.loop-place-preserved
 unfolding set_at state_at past_end
 loop-place-preserved c =
-    let at = c.loop-place in
     let a = c.args in
-    let l : at.place < 8 = c.loop-place-test.true in (
-      at.invariant.0,
-      rw c.next_set-place-in-loop-place.ensures (place a.mask (at.place + 1) (omega arith)),
-      rw c.next_set-place-in-loop-place.ensures (counted-more a.sets a.states a.mask a.diesel at.out at.place at.invariant.1 l at.invariant.2 _ (c.count.ensures ∙ rw at.invariant.0)),
-    )
+    let i = c.loop-place.invariant in
+    let t = turn a.mask c.next.new.self i.stands c.in-Some.ensures.steps in
+    let before = rw (← t.here) at i.counts in
+    rw t.on (record {
+      shared = i.shared;
+      stands = t.standing;
+      counts = counted-more a.sets a.states a.mask a.diesel c.loop-place.out c.in-Some.place t.at t.inside before _ (c.count.ensures ∙ rw i.shared);
+    })
 
 pub returns : goal.returns
 unfolding counted_all_in
-returns c = filling-whole _ _ 8 c.loop-place.place _ c.loop-place.invariant.2 (omega arith)
+returns c =
+    let i = c.loop-place.invariant in
+    filling-whole _ _ 8 _ _ i.counts (walk_over c.args.mask c.next.new.self i.stands c.in-None.ensures.steps)
