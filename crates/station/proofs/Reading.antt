@@ -35,16 +35,15 @@ littles-at width (suc count) (suc j) s h =
 pub number_in : (width count j body : ℕ) (s : List ℕ) → j < count → little width (drop (body + width * j) s) ≡ get_or (littles width count (drop body s)) j 0
 number_in width count j body s h = sym (littles-at width count j (drop body s) h ∙ ap (little width) (drop-drop (width * j) body s))
 
--- the five that stand 8 bytes apart, from place j of a set on
-pub pairs-in : (j body : ℕ) (s : List ℕ) → j < 8
-    → let at = body + 4 * j in
-    let ns = littles 4 16 (drop body s) in
-    little 4 (drop at s) ∷ little 4 (drop (at + 8) s) ∷ little 4 (drop (at + 16) s) ∷ little 4 (drop (at + 24) s) ∷ little 4 (drop (at + 32) s) ∷ []
-    ≡ get_or ns j 0 ∷ get_or ns (j + 2) 0 ∷ get_or ns (j + 4) 0 ∷ get_or ns (j + 6) 0 ∷ get_or ns (j + 8) 0 ∷ []
-pairs-in j body s h = λ i. number_in 4 16 j body s (omega arith) i ∷ next 2 (omega arith) i ∷ next 4 (omega arith) i ∷ next 6 (omega arith) i ∷ next 8 (omega arith) i ∷ []
+-- the loads of the five pairs of a set, or their rates, which stand 4 bytes after the loads
+pub pairs-in : (k offset body : ℕ) (s : List ℕ) → k < 2 → offset ≡ 4 * k
+    → let ns = littles 4 16 (drop body s) in
+    little 4 (drop (body + 24 + offset) s) ∷ little 4 (drop (body + 24 + 8 + offset) s) ∷ little 4 (drop (body + 24 + 16 + offset) s) ∷ little 4 (drop (body + 24 + 24 + offset) s) ∷ little 4 (drop (body + 24 + 32 + offset) s) ∷ []
+    ≡ get_or ns (k + 6) 0 ∷ get_or ns (k + 8) 0 ∷ get_or ns (k + 10) 0 ∷ get_or ns (k + 12) 0 ∷ get_or ns (k + 14) 0 ∷ []
+pairs-in k offset body s h o = λ i. one (body + 24 + offset) 6 (omega arith) (omega arith) i ∷ one (body + 24 + 8 + offset) 8 (omega arith) (omega arith) i ∷ one (body + 24 + 16 + offset) 10 (omega arith) (omega arith) i ∷ one (body + 24 + 24 + offset) 12 (omega arith) (omega arith) i ∷ one (body + 24 + 32 + offset) 14 (omega arith) (omega arith) i ∷ []
   where
-    next : (k : ℕ) → k ≤ 8 → little 4 (drop (body + 4 * j + 4 * k) s) ≡ get_or (littles 4 16 (drop body s)) (j + k) 0
-    next k l = let e : body + 4 * j + 4 * k ≡ body + 4 * (j + k) = omega arith in rw e (number_in 4 16 (j + k) body s (omega arith))
+    one : (at j : ℕ) → at ≡ body + 4 * (k + j) → j ≤ 14 → little 4 (drop at s) ≡ get_or (littles 4 16 (drop body s)) (k + j) 0
+    one at j e l = rw e (number_in 4 16 (k + j) body s (omega arith))
 
 -- ---- a row of elements in an array whose rest is filled, one more a turn
 

@@ -6,24 +6,33 @@ ghost use Rattle.rules.specs.StationRecord.{no_set};
 ghost use Rattle.rules.specs.StationFile.{control_of, battery_of, set_of, sets_of, record_of, contents_right};
 
 use crate::contents::count_at;
-use crate::numbers::{number_at, word_at};
+use crate::numbers::{field_at, word_at};
 use rules::station::{Battery, Control, GenSet, Station};
-use station_fields::{layout, places, ranges};
+use station_fields::battery::{EFFICIENCY, LEAST_CONTENT, MOST_CONTENT, POWER, START_CONTENT};
+use station_fields::control::{
+    COVERAGE, FILTER_K, MAINTAIN, MINIMUM_LOAD, MINIMUM_SECONDS, ON_LINE, SHED, SHED_DELAY,
+    SPINNING,
+};
+use station_fields::field::Field;
+use station_fields::genset::{
+    COOL_DOWN, PAIR_LOAD, PAIR_RATE, POINTS, RATING, SERVICE_INTERVAL, SERVICE_TIME, WARM_UP,
+};
+use station_fields::{layout, ranges};
 
 fn control_of(s: &[u8]) -> Control
     requires { 165 ≤ length s.now }
     ensures { result ≡ control_of (littles 4 9 (drop 32 s.now)) }
 {
     Control {
-        spinning: word_at(s, places::SPINNING_AT, places::SPINNING_WIDTH),
-        coverage: word_at(s, places::COVERAGE_AT, places::COVERAGE_WIDTH),
-        minload: word_at(s, places::MINIMUM_LOAD_AT, places::MINIMUM_LOAD_WIDTH),
-        shed: word_at(s, places::SHED_AT, places::SHED_WIDTH),
-        delay: word_at(s, places::SHED_DELAY_AT, places::SHED_DELAY_WIDTH),
-        k: word_at(s, places::FILTER_K_AT, places::FILTER_K_WIDTH),
-        minseconds: word_at(s, places::MINIMUM_SECONDS_AT, places::MINIMUM_SECONDS_WIDTH),
-        maintain: word_at(s, places::MAINTAIN_AT, places::MAINTAIN_WIDTH),
-        online: word_at(s, places::ON_LINE_AT, places::ON_LINE_WIDTH),
+        spinning: word_at(s, layout::CONTROL_AT, SPINNING),
+        coverage: word_at(s, layout::CONTROL_AT, COVERAGE),
+        minload: word_at(s, layout::CONTROL_AT, MINIMUM_LOAD),
+        shed: word_at(s, layout::CONTROL_AT, SHED),
+        delay: word_at(s, layout::CONTROL_AT, SHED_DELAY),
+        k: word_at(s, layout::CONTROL_AT, FILTER_K),
+        minseconds: word_at(s, layout::CONTROL_AT, MINIMUM_SECONDS),
+        maintain: word_at(s, layout::CONTROL_AT, MAINTAIN),
+        online: word_at(s, layout::CONTROL_AT, ON_LINE),
     }
 }
 
@@ -32,25 +41,25 @@ fn battery_of(s: &[u8]) -> Battery
     ensures { result ≡ battery_of (littles 4 2 (drop 68 s.now)) (littles 8 3 (drop 76 s.now)) }
 {
     Battery {
-        power: word_at(s, places::POWER_AT, places::POWER_WIDTH),
-        efficiency: word_at(s, places::EFFICIENCY_AT, places::EFFICIENCY_WIDTH),
-        least: number_at(s, places::LEAST_CONTENT_AT, places::LEAST_CONTENT_WIDTH),
-        most: number_at(s, places::MOST_CONTENT_AT, places::MOST_CONTENT_WIDTH),
-        start: number_at(s, places::START_CONTENT_AT, places::START_CONTENT_WIDTH),
+        power: word_at(s, layout::BATTERY_AT, POWER),
+        efficiency: word_at(s, layout::BATTERY_AT, EFFICIENCY),
+        least: field_at(s, layout::BATTERY_AT, LEAST_CONTENT),
+        most: field_at(s, layout::BATTERY_AT, MOST_CONTENT),
+        start: field_at(s, layout::BATTERY_AT, START_CONTENT),
     }
 }
 
-// The number at this place of the first pair, and at the same place of each other pair.
-fn pairs_from(s: &[u8], at: usize, width: usize) -> [u32; layout::PAIRS]
-    requires { (at + 32 + width ≤ length s.now) × (width ≤ 4) }
-    ensures { result ≡ little width (drop at s.now) ∷ little width (drop (at + 8) s.now) ∷ little width (drop (at + 16) s.now) ∷ little width (drop (at + 24) s.now) ∷ little width (drop (at + 32) s.now) ∷ [] }
+// The row's number of the first pair, and of each other pair, of the pairs that start at a place.
+fn pairs_from(s: &[u8], pairs: usize, row: Field) -> [u32; layout::PAIRS]
+    requires { (pairs + row.offset + 32 + row.width ≤ length s.now) × (row.width ≤ 4) }
+    ensures { result ≡ little row.width (drop (pairs + row.offset) s.now) ∷ little row.width (drop (pairs + 8 + row.offset) s.now) ∷ little row.width (drop (pairs + 16 + row.offset) s.now) ∷ little row.width (drop (pairs + 24 + row.offset) s.now) ∷ little row.width (drop (pairs + 32 + row.offset) s.now) ∷ [] }
 {
     [
-        word_at(s, at, width),
-        word_at(s, at + layout::PAIR_SIZE, width),
-        word_at(s, at + 2 * layout::PAIR_SIZE, width),
-        word_at(s, at + 3 * layout::PAIR_SIZE, width),
-        word_at(s, at + 4 * layout::PAIR_SIZE, width),
+        word_at(s, pairs, row),
+        word_at(s, pairs + layout::PAIR_SIZE, row),
+        word_at(s, pairs + 2 * layout::PAIR_SIZE, row),
+        word_at(s, pairs + 3 * layout::PAIR_SIZE, row),
+        word_at(s, pairs + 4 * layout::PAIR_SIZE, row),
     ]
 }
 
@@ -58,23 +67,16 @@ fn set_of(s: &[u8], at: usize) -> GenSet
     requires { at + 64 ≤ length s.now }
     ensures { result ≡ set_of (littles 4 16 (drop at s.now)) }
 {
+    let pairs = at + layout::PAIRS_OFFSET;
     GenSet {
-        rating: word_at(s, at + places::RATING_OFFSET, places::RATING_WIDTH),
-        warmup: word_at(s, at + places::WARM_UP_OFFSET, places::WARM_UP_WIDTH),
-        cooldown: word_at(s, at + places::COOL_DOWN_OFFSET, places::COOL_DOWN_WIDTH),
-        interval: word_at(
-            s,
-            at + places::SERVICE_INTERVAL_OFFSET,
-            places::SERVICE_INTERVAL_WIDTH,
-        ),
-        service: word_at(
-            s,
-            at + places::SERVICE_TIME_OFFSET,
-            places::SERVICE_TIME_WIDTH,
-        ),
-        points: word_at(s, at + places::POINTS_OFFSET, places::POINTS_WIDTH),
-        loads: pairs_from(s, at + places::PAIR_LOAD_OFFSET, places::PAIR_LOAD_WIDTH),
-        rates: pairs_from(s, at + places::PAIR_RATE_OFFSET, places::PAIR_RATE_WIDTH),
+        rating: word_at(s, at, RATING),
+        warmup: word_at(s, at, WARM_UP),
+        cooldown: word_at(s, at, COOL_DOWN),
+        interval: word_at(s, at, SERVICE_INTERVAL),
+        service: word_at(s, at, SERVICE_TIME),
+        points: word_at(s, at, POINTS),
+        loads: pairs_from(s, pairs, PAIR_LOAD),
+        rates: pairs_from(s, pairs, PAIR_RATE),
     }
 }
 

@@ -6,7 +6,11 @@ ghost use Rattle.rules.specs.StationFile.{count_at, entry_right, contents_right}
 use crate::numbers::number_at;
 use rules::answers::Refusal;
 use station_fields::layout;
-use station_fields::layout::{BATTERY_AT, BATTERY_ENTRY, BATTERY_PART, CONFIGURATION_SIZE, CONFIGURATIONS_ENTRY, CONFIGURATIONS_PART, CONTROL_AT, CONTROL_ENTRY, CONTROL_PART, SET_SIZE, SETS_AT, SETS_ENTRY, SETS_PART};
+use station_fields::layout::{
+    BATTERY_AT, BATTERY_ENTRY, BATTERY_PART, CONFIGURATION_SIZE, CONFIGURATIONS_ENTRY,
+    CONFIGURATIONS_PART, CONTROL_AT, CONTROL_ENTRY, CONTROL_PART, SET_SIZE, SETS_AT, SETS_ENTRY,
+    SETS_PART,
+};
 
 // The count that the entry at this place has.
 pub(crate) fn count_at(s: &[u8], place: usize) -> u64

@@ -2,6 +2,7 @@
 ghost use Rattle.std.specs.Prelude.{◌≡◌, ◌+◌, ◌≤◌, ◌<◌, ◌^◌, length, drop};
 ghost use Rattle.rules.specs.Bytes.{little};
 
+use station_fields::field::Field;
 use words::little::little;
 
 pub(crate) fn number_at(s: &[u8], at: usize, width: usize) -> u64
@@ -13,10 +14,19 @@ pub(crate) fn number_at(s: &[u8], at: usize, width: usize) -> u64
     little(&s[at..end])
 }
 
-// One of at most 4 bytes.
-pub(crate) fn word_at(s: &[u8], at: usize, width: usize) -> u32
-    requires { (at + width ≤ length s.now) × (width ≤ 4) }
-    ensures { result ≡ little width (drop at s.now) }
+// A row's number, of the body that starts at a place.
+pub(crate) fn field_at(s: &[u8], body: usize, row: Field) -> u64
+    requires { (body + row.offset + row.width ≤ length s.now) × (row.width ≤ 8) }
+    ensures value { result ≡ little row.width (drop (body + row.offset) s.now) }
+    ensures upper_bound { result < 256 ^ row.width }
 {
-    number_at(s, at, width) as u32
+    number_at(s, body + row.offset, row.width)
+}
+
+// One of at most 4 bytes.
+pub(crate) fn word_at(s: &[u8], body: usize, row: Field) -> u32
+    requires { (body + row.offset + row.width ≤ length s.now) × (row.width ≤ 4) }
+    ensures { result ≡ little row.width (drop (body + row.offset) s.now) }
+{
+    field_at(s, body, row) as u32
 }

@@ -4,9 +4,9 @@ ghost use Rattle.rules.specs.Answers.{result_of};
 ghost use Rattle.rules.specs.StationRecord.{no_station};
 ghost use Rattle.rules.specs.StationFile.{station_file};
 
-use rules::answers::Refusal;
 use crate::bodies::{no_set, record_of};
 use crate::contents::contents_right;
+use rules::answers::Refusal;
 use rules::station::{Battery, Control, Station};
 use station_fields::ranges;
 use station_record::values::values_right;

@@ -6,5 +6,4 @@ pub mod control;
 pub mod field;
 pub mod genset;
 pub mod layout;
-pub mod places;
 pub mod ranges;

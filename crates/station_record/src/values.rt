@@ -1,30 +1,44 @@
 // Which values a station may have: refusals 4 to 8, in the paper's order.
 ghost use Rattle.std.specs.Prelude.{◌≡◌, suc, ◌≤◌, take, get_or};
-ghost use Rattle.rules.specs.Numbers.{all_to};
+ghost use Rattle.rules.specs.Numbers.{all_to, within};
 ghost use Rattle.rules.specs.Answers.{result_of};
 ghost use Rattle.rules.specs.StationRecord.{control_right, battery_right, service_right, set_right, pair_right, rises, pairs_right, configuration_right, sets_right, configurations_right, values_right};
 
 use rules::answers::Refusal;
 use rules::station::{Battery, Control, GenSet, Station};
+use station_fields::battery::{EFFICIENCY, LEAST_CONTENT, MOST_CONTENT, POWER, START_CONTENT};
+use station_fields::control::{
+    COVERAGE, FILTER_K, MAINTAIN, MINIMUM_LOAD, MINIMUM_SECONDS, SHED, SHED_DELAY, SPINNING,
+};
+use station_fields::field::Field;
+use station_fields::genset::{
+    COOL_DOWN, PAIR_LOAD, PAIR_RATE, POINTS, RATING, SERVICE_INTERVAL, SERVICE_TIME, WARM_UP,
+};
 use station_fields::{layout, ranges};
 use words::masks::existing_only;
 
 // A pair's load is held against the next, so the last pair has none.
 const RISES: usize = layout::PAIRS - 1;
 
+// Whether a number is in its row's range.
+fn within(row: Field, value: u64) -> bool
+    ensures { result ≡ within row.least row.most value }
+{
+    (row.least <= value) & (value <= row.most)
+}
+
 // 4
 fn control_right(setcount: usize, c: Control) -> bool
     ensures { result ≡ control_right setcount c }
 {
-    ((ranges::SPINNING_LEAST <= c.spinning) & (c.spinning <= ranges::SPINNING_MOST))
-        & ((ranges::COVERAGE_LEAST <= c.coverage) & (c.coverage <= ranges::COVERAGE_MOST))
-        & ((ranges::MINIMUM_LOAD_LEAST <= c.minload) & (c.minload <= ranges::MINIMUM_LOAD_MOST))
-        & ((ranges::SHED_LEAST <= c.shed) & (c.shed <= ranges::SHED_MOST))
-        & ((ranges::SHED_DELAY_LEAST <= c.delay) & (c.delay <= ranges::SHED_DELAY_MOST))
-        & ((ranges::FILTER_K_LEAST <= c.k) & (c.k <= ranges::FILTER_K_MOST))
-        & ((ranges::MINIMUM_SECONDS_LEAST <= c.minseconds)
-            & (c.minseconds <= ranges::MINIMUM_SECONDS_MOST))
-        & ((ranges::MAINTAIN_LEAST <= c.maintain) & (c.maintain <= ranges::MAINTAIN_MOST))
+    within(SPINNING, c.spinning as u64)
+        & within(COVERAGE, c.coverage as u64)
+        & within(MINIMUM_LOAD, c.minload as u64)
+        & within(SHED, c.shed as u64)
+        & within(SHED_DELAY, c.delay as u64)
+        & within(FILTER_K, c.k as u64)
+        & within(MINIMUM_SECONDS, c.minseconds as u64)
+        & within(MAINTAIN, c.maintain as u64)
         & existing_only(setcount, c.online as u64)
 }
 
@@ -32,20 +46,19 @@ fn control_right(setcount: usize, c: Control) -> bool
 fn battery_right(b: Battery) -> bool
     ensures { result ≡ battery_right b }
 {
-    ((ranges::POWER_LEAST <= b.power) & (b.power <= ranges::POWER_MOST))
-        & ((ranges::EFFICIENCY_LEAST <= b.efficiency) & (b.efficiency <= ranges::EFFICIENCY_MOST))
+    within(POWER, b.power as u64)
+        & within(EFFICIENCY, b.efficiency as u64)
         & (b.least <= b.start)
         & (b.start <= b.most)
-        & ((ranges::MOST_CONTENT_LEAST <= b.most) & (b.most <= ranges::MOST_CONTENT_MOST))
-        & (((ranges::LEAST_CONTENT_LEAST <= b.least) & (b.least <= ranges::LEAST_CONTENT_MOST))
-            & ((ranges::START_CONTENT_LEAST <= b.start) & (b.start <= ranges::START_CONTENT_MOST)))
+        & within(MOST_CONTENT, b.most)
+        & (within(LEAST_CONTENT, b.least) & within(START_CONTENT, b.start))
 }
 
 // "service time s 1 to 2,592,000, but 0 where the interval is 0"
 fn service_right(interval: u32, service: u32) -> bool
     ensures { result ≡ service_right interval service }
 {
-    let in_range = (ranges::SERVICE_TIME_LEAST <= service) & (service <= ranges::SERVICE_TIME_MOST);
+    let in_range = within(SERVICE_TIME, service as u64);
     if interval == 0 {
         return (service == 0) & in_range;
     }
@@ -56,21 +69,19 @@ fn service_right(interval: u32, service: u32) -> bool
 fn set_right(g: GenSet) -> bool
     ensures { result ≡ set_right g }
 {
-    ((ranges::RATING_LEAST <= g.rating) & (g.rating <= ranges::RATING_MOST))
-        & ((ranges::WARM_UP_LEAST <= g.warmup) & (g.warmup <= ranges::WARM_UP_MOST))
-        & ((ranges::COOL_DOWN_LEAST <= g.cooldown) & (g.cooldown <= ranges::COOL_DOWN_MOST))
-        & ((ranges::SERVICE_INTERVAL_LEAST <= g.interval)
-            & (g.interval <= ranges::SERVICE_INTERVAL_MOST))
+    within(RATING, g.rating as u64)
+        & within(WARM_UP, g.warmup as u64)
+        & within(COOL_DOWN, g.cooldown as u64)
+        & within(SERVICE_INTERVAL, g.interval as u64)
         & service_right(g.interval, g.service)
-        & ((ranges::POINTS_LEAST <= g.points) & (g.points <= ranges::POINTS_MOST))
+        & within(POINTS, g.points as u64)
 }
 
 fn pair_right(points: u32, place: u32, load: u32, rate: u32) -> bool
     ensures { result ≡ pair_right points place load rate }
 {
     if place < points {
-        return ((ranges::PAIR_LOAD_LEAST <= load) & (load <= ranges::PAIR_LOAD_MOST))
-            & ((ranges::PAIR_RATE_LEAST <= rate) & (rate <= ranges::PAIR_RATE_MOST));
+        return within(PAIR_LOAD, load as u64) & within(PAIR_RATE, rate as u64);
     }
     (load == 0) & (rate == 0)
 }

@@ -1,5 +1,5 @@
 -- `station::bodies::set_of` meets its contract. Assumes nothing.
-use mathlib.Core.Path.{◌∙◌}
+use mathlib.Core.Path.{refl, ◌∙◌}
 use native.Mathlib.Omega.{arith}
 use Rattle.station.proofs.Reading.{number_in, pairs-in}
 use Rattle.station.proofs.bodies.set_of.Goals as goal
@@ -15,6 +15,6 @@ returns c =
       interval = (c.word_at-4.ensures ∙ number_in 4 16 3 a.at s (omega arith)) i;
       service = (c.word_at-5.ensures ∙ number_in 4 16 4 a.at s (omega arith)) i;
       points = (c.word_at-6.ensures ∙ number_in 4 16 5 a.at s (omega arith)) i;
-      loads = (c.pairs_from.ensures ∙ pairs-in 6 a.at s (omega arith)) i;
-      rates = (c.pairs_from-2.ensures ∙ pairs-in 7 a.at s (omega arith)) i;
+      loads = (c.pairs_from.ensures ∙ pairs-in 0 0 a.at s (omega arith) refl) i;
+      rates = (c.pairs_from-2.ensures ∙ pairs-in 1 4 a.at s (omega arith) refl) i;
     }

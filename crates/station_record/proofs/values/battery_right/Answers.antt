@@ -6,4 +6,4 @@ use Rattle.station_record.proofs.values.battery_right.Goals as goal
 
 pub returns : goal.returns
 unfolding battery_right
-returns c = simp leb-zero (contents-below c.args.b)
+returns c = simp (c.within.ensures, c.within-2.ensures, c.within-3.ensures, c.within-4.ensures, c.within-5.ensures, leb-zero) (contents-below c.args.b)
