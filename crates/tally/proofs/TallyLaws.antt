@@ -1,7 +1,10 @@
 -- The tally of bytes one after the other, and of four bytes as a word. Assumes nothing.
-use Rattle.std.proofs.Common.{◌≡◌, ℕ, zero, suc, ◌+◌, ◌*◌, ◌%◌, ◌<◌, ◌≤◌, List, [], ◌∷◌, ◌++◌, length, get_or, drop, sym, refl, ap, ◌∙◌, add-one, arith, drop_of_length-le, drop-cons}
+use Rattle.std.proofs.Common.{◌≡◌, ℕ, zero, suc, ◌+◌, ◌*◌, ◌%◌, ◌<◌, ◌≤◌, List, [], ◌∷◌, ◌++◌, length, get_or, drop, sym, refl, ap, ◌∙◌, add-one, arith, append_assoc, drop_of_length-le, drop-cons}
+use lib.ListN.{take, take-append-drop}
+use lib.Seq.{drop-drop}
+use Rattle.std.specs.Simd.{first_chunks}
 use Rattle.tally.specs.declared.Tally.{Tally}
-use Rattle.tally.specs.Tally.{modulus, worth, at_word_end, with_byte, tallied_of, WordTallied}
+use Rattle.tally.specs.Tally.{modulus, worth, at_word_end, with_byte, tallied_of, bytes_of, WordsTallied}
 
 -- the byte at place i more
 pub tally-turn : (whole t : Tally) (s : List ℕ) (i : ℕ) → i < length s → whole ≡ tallied_of t (drop i s)
@@ -13,7 +16,7 @@ tally-next : (whole t : Tally) (s : List ℕ) (i j : ℕ) → i < length s → i
     → whole ≡ tallied_of (with_byte t (get_or s i 0)) (drop j s)
 tally-next whole t s i j h n e = rw n at (tally-turn whole t s i h e)
 
-tally-end : (t : Tally) (s : List ℕ) (i : ℕ) → length s ≤ i → tallied_of t (drop i s) ≡ t
+pub tally-end : (t : Tally) (s : List ℕ) (i : ℕ) → length s ≤ i → tallied_of t (drop i s) ≡ t
 unfolding tallied_of
 tally-end t s i h = ap (tallied_of t) (drop_of_length-le s h)
 
@@ -25,6 +28,13 @@ worth-last zero byte h = omega (arith, h)
 worth-last (suc zero) byte h = omega (arith, h)
 worth-last (suc (suc zero)) byte h = omega (arith, h)
 worth-last (suc (suc (suc _))) byte h = refl
+
+pub at-word-end-early : (place sum : ℕ) → place ≤ 2 → 0 ≡ at_word_end place sum
+unfolding at_word_end
+at-word-end-early zero sum h = refl
+at-word-end-early (suc zero) sum h = refl
+at-word-end-early (suc (suc zero)) sum h = refl
+at-word-end-early (suc (suc (suc _))) sum h = omega (arith, h)
 
 pub at-word-end-last : (place sum : ℕ) → 3 ≤ place → sum ≡ at_word_end place sum
 unfolding at_word_end
@@ -77,42 +87,48 @@ word_bytes n s t a b c d e =
     let e₃ : (((n + 1) % modulus + 1) % modulus + 1) % modulus % 4 ≡ 3 = next_place _ 2 e₂ (omega arith) in
     rw (byte-first n s t a e, byte-second _ _ _ b e₁, byte-third _ _ _ c e₂, byte-fourth _ _ _ d e₃, four_bytes n, word_sum s a b c d, word-sums t)
 
-pub tally-word : (t : Tally) (s : List ℕ) (at word n m k : ℕ) → at + 4 ≤ length s → t.count % 4 ≡ 0
-    → word ≡ get_or s at 0 + get_or s (at + 1) 0 * 256 + get_or s (at + 2) 0 * 65536 + get_or s (at + 3) 0 * 16777216
-    → m ≡ (t.sum + word) % modulus → n ≡ (t.count + 4) % modulus → k ≡ (t.sums + m) % modulus
-    → (tallied_of t (drop at s) ≡ tallied_of (tally n m k) (drop (at + 4) s)) × (n % 4 ≡ 0)
-tally-word t s at word n m k h e w em en ek =
-    let t₁ = tally-turn (tallied_of t (drop at s)) t s at (omega (arith, h)) refl in
-    let t₂ = tally-next _ _ s (at + 1) (at + 2) (omega (arith, h)) (omega arith) t₁ in
-    let t₃ = tally-next _ _ s (at + 2) (at + 3) (omega (arith, h)) (omega arith) t₂ in
-    let t₄ = tally-next _ _ s (at + 3) (at + 4) (omega (arith, h)) (omega arith) t₃ in
-    let bytes = word_bytes t.count t.sum t.sums (get_or s at 0) (get_or s (at + 1) 0) (get_or s (at + 2) 0) (get_or s (at + 3) 0) e in
-    let last : n % 4 ≡ 0 = omega (arith, en, e) in
-    (rw (ek, em, en, w) (t₄ ∙ ap (λ (u : Tally). tallied_of u (drop (at + 4) s)) bytes), last)
-
--- four words
-pub tally-words : (whole a b c d e : Tally) (s : List ℕ) (at : ℕ) → (whole ≡ tallied_of a (drop at s)) → a.count % 4 ≡ 0
-    → WordTallied a s at b → WordTallied b s (at + 4) c → WordTallied c s (at + 8) d → WordTallied d s (at + 12) e
-    → (e.count % 4 ≡ 0) × (whole ≡ tallied_of e (drop (at + 16) s))
-tally-words whole a b c d e s at h z p q r t =
-    let q₁ = q (p z).1 in
-    let r₁ = r q₁.1 in
-    let t₁ = t r₁.1 in
-    let i : at + 4 + 4 ≡ at + 8 = omega arith in
-    let j : at + 8 + 4 ≡ at + 12 = omega arith in
-    let k : at + 12 + 4 ≡ at + 16 = omega arith in
-    let u : tallied_of b (drop (at + 4) s) ≡ tallied_of c (drop (at + 8) s) = rw i at q₁.0 in
-    let v : tallied_of c (drop (at + 8) s) ≡ tallied_of d (drop (at + 12) s) = rw j at r₁.0 in
-    let w : tallied_of d (drop (at + 12) s) ≡ tallied_of e (drop (at + 16) s) = rw k at t₁.0 in
-    (t₁.1, h ∙ (p z).0 ∙ u ∙ v ∙ w)
-
--- the bytes of the word that had begun, whole words, and the bytes of the last
-pub tally-parts : (t a b c : Tally) (s : List ℕ) (i j : ℕ) → tallied_of t (drop 0 s) ≡ tallied_of a (drop i s) → tallied_of a (drop i s) ≡ tallied_of b (drop j s)
-    → tallied_of b (drop j s) ≡ tallied_of c (drop (length s) s) → c ≡ tallied_of t s
-tally-parts t a b c s i j p q r = sym (p ∙ q ∙ r ∙ tally-end c s (length s) (omega arith))
+-- a word whose bytes are read at once
+pub tally-word : (t : Tally) (word : List ℕ) (n m k : ℕ) → length word ≡ 4
+    → m ≡ (t.sum + (get_or word 0 0 + get_or word 1 0 * 256 + get_or word 2 0 * 65536 + get_or word 3 0 * 16777216)) % modulus → n ≡ (t.count + 4) % modulus → k ≡ (t.sums + m) % modulus
+    → WordsTallied t word (tally n m k)
+unfolding tallied_of
+tally-word t (a ∷ b ∷ c ∷ d ∷ []) n m k size em en ek e = (rw (ek, em, en) (sym (word_bytes t.count t.sum t.sums a b c d e)), omega (arith, en, e))
+tally-word t [] n m k size em en ek e = absurd (omega (arith, size))
+tally-word t (a ∷ []) n m k size em en ek e = absurd (omega (arith, size))
+tally-word t (a ∷ b ∷ []) n m k size em en ek e = absurd (omega (arith, size))
+tally-word t (a ∷ b ∷ c ∷ []) n m k size em en ek e = absurd (omega (arith, size))
+tally-word t (a ∷ b ∷ c ∷ d ∷ f ∷ _) n m k size em en ek e = absurd (omega (arith, size))
 
 -- bytes and then others are tallied as all of them
 pub tallied-append : (t : Tally) (s more : List ℕ) → tallied_of t (s ++ more) ≡ tallied_of (tallied_of t s) more
 unfolding tallied_of
 tallied-append t [] more = refl
 tallied-append t (byte ∷ s) more = tallied-append (with_byte t byte) s more
+
+-- the word at place i more
+pub words-turn : (whole t u : Tally) (words : List (List ℕ)) (i : ℕ) (d : List ℕ) → i < length words → whole ≡ tallied_of t (bytes_of (drop i words)) → u ≡ tallied_of t (get_or words i d)
+    → whole ≡ tallied_of u (bytes_of (drop (i + 1) words))
+words-turn whole t u words i d h e is =
+    rw (add-one i)
+    (e ∙ ap (λ (l : List (List ℕ)). tallied_of t (bytes_of l)) (drop-cons words i d h) ∙ tallied-append t (get_or words i d) (bytes_of (drop (suc i) words))
+    ∙ ap (λ (x : Tally). tallied_of x (bytes_of (drop (suc i) words))) (sym is))
+
+pub words-end : (t : Tally) (words : List (List ℕ)) (i : ℕ) → length words ≤ i → tallied_of t (bytes_of (drop i words)) ≡ t
+unfolding tallied_of
+words-end t words i h = ap (λ (l : List (List ℕ)). tallied_of t (bytes_of l)) (drop_of_length-le words h)
+
+-- the words that the library parts a list into, and the bytes behind them
+pub words-joined : (k : ℕ) (s : List ℕ) → bytes_of (first_chunks 4 k s) ++ drop (k * 4) s ≡ s
+words-joined zero s = refl
+words-joined (suc k) s =
+    let size : suc k * 4 ≡ 4 + k * 4 = omega arith in
+    append_assoc (take 4 s) (bytes_of (first_chunks 4 k (drop 4 s))) (drop (suc k * 4) s)
+    ∙ ap (λ (l : List ℕ). take 4 s ++ (bytes_of (first_chunks 4 k (drop 4 s)) ++ l)) (ap (λ (n : ℕ). drop n s) size ∙ sym (drop-drop (k * 4) 4 s))
+    ∙ ap (λ (l : List ℕ). take 4 s ++ l) (words-joined k (drop 4 s)) ∙ take-append-drop 4 s
+
+-- bytes in two parts, and in three
+pub tally-two : (t a b : Tally) (s head rest : List ℕ) → head ++ rest ≡ s → a ≡ tallied_of t head → b ≡ tallied_of a rest → b ≡ tallied_of t s
+tally-two t a b s head rest whole p q = q ∙ ap (λ (x : Tally). tallied_of x rest) p ∙ sym (tallied-append t head rest) ∙ ap (tallied_of t) whole
+
+pub tally-parts : (t a b c : Tally) (s head rest words last : List ℕ) → head ++ rest ≡ s → words ++ last ≡ rest → a ≡ tallied_of t head → b ≡ tallied_of a words → c ≡ tallied_of b last → c ≡ tallied_of t s
+tally-parts t a b c s head rest words last whole parts p q r = tally-two t a c s head rest whole p (tally-two a b c rest words last parts q r)

@@ -1,8 +1,7 @@
 -- The count and the checksum of the bytes of a pass over a file, byte by byte, in the 64 bits that hold them. The bytes are summed
 -- as words of four, whose sum cannot lose a byte's place in its word; where the words stand is a matter of the file and not of its chunks.
-use Rattle.std.specs.Prelude.{◌≡◌, ℕ, zero, suc, ◌+◌, ◌*◌, ◌%◌, ◌≤◌, Bool, ◌&&◌, List, [], ◌∷◌, length, drop, ◌==◌}
+use Rattle.std.specs.Prelude.{◌≡◌, ℕ, zero, suc, ◌+◌, ◌*◌, ◌%◌, Bool, ◌&&◌, List, [], ◌∷◌, ◌++◌, ◌==◌}
 use Rattle.tally.specs.declared.Tally.{Tally}
-use Rattle.tally.specs.declared.TalliedTo.{TalliedTo}
 
 -- 2^64
 abbrev pub modulus : ℕ
@@ -39,10 +38,11 @@ tallied_of t (byte ∷ rest) = tallied_of (with_byte t byte) rest
 unfoldable pub same_tally : Tally → Tally → Bool
 same_tally a b = a.count == b.count && a.sum == b.sum && a.sums == b.sums
 
--- the four bytes of a word are tallied, and the next word begins
-abbrev pub WordTallied : Tally → List ℕ → ℕ → Tally → Type 0
-WordTallied t s at r = t.count % 4 ≡ 0 → (tallied_of t (drop at s) ≡ tallied_of r (drop (at + 4) s)) × (r.count % 4 ≡ 0)
+-- the bytes of words, one after the other
+abbrev pub bytes_of : List (List ℕ) → List ℕ
+bytes_of [] = []
+bytes_of (word ∷ rest) = word ++ bytes_of rest
 
--- the words from a place of the text on are tallied up to `next`
-abbrev pub WordsTallied : Tally → List ℕ → ℕ → TalliedTo → Type 0
-WordsTallied t s from r = (r.next ≤ length s) × (tallied_of t (drop from s) ≡ tallied_of r.tally (drop r.next s))
+-- where a word begins, these bytes, which are words, are tallied, and the next word begins
+abbrev pub WordsTallied : Tally → List ℕ → Tally → Type 0
+WordsTallied t s r = t.count % 4 ≡ 0 → (r ≡ tallied_of t s) × (r.count % 4 ≡ 0)

@@ -1,25 +1,15 @@
 #![tactic(auto)]
 // A count and a checksum of the bytes of a pass: where those of two passes differ, the file changed between them.
-ghost use Rattle.std.specs.Prelude.{◌≡◌, ◌+◌, ◌*◌, ◌<◌, ◌≤◌, length, drop, slice_index};
-ghost use Rattle.tally.specs.Tally.{no_bytes, worth, at_word_end, with_byte, tallied_of, same_tally, WordTallied, WordsTallied};
-
-use std::num::wrapping_add_u64;
-use words::arithmetic::byte_u64;
+ghost use Rattle.std.specs.Prelude.{◌≡◌, ◌≤◌};
+ghost use Rattle.tally.specs.Tally.{no_bytes, worth, at_word_end, with_byte, tallied_of, same_tally, WordsTallied, bytes_of};
 
 // How many bytes, the sum of their words of four bytes, and the sum of those sums after each word, which tells bytes and words
 // that changed places.
-#[derive(Clone, Copy)]
+#[derive(Clone, Copy, PartialEq)]
 pub struct Tally {
     pub count: u64,
     pub sum: u64,
     pub sums: u64,
-}
-
-// The tally up to a place of a chunk.
-#[derive(Clone, Copy)]
-struct TalliedTo {
-    tally: Tally,
-    next: usize,
 }
 
 pub fn no_bytes() -> Tally
@@ -37,10 +27,10 @@ fn worth(place: u64, byte: u8) -> u64
     ensures { result ≡ worth place byte }
 {
     match place {
-        0 => byte_u64(byte),
-        1 => byte_u64(byte) * 256,
-        2 => byte_u64(byte) * 65536,
-        _ => byte_u64(byte) * 16777216,
+        0 => u64::from(byte),
+        1 => u64::from(byte) * 256,
+        2 => u64::from(byte) * 65536,
+        _ => u64::from(byte) * 16777216,
     }
 }
 
@@ -49,9 +39,7 @@ fn at_word_end(place: u64, sum: u64) -> u64
     ensures { result ≡ at_word_end place sum }
 {
     match place {
-        0 => 0,
-        1 => 0,
-        2 => 0,
+        0..=2 => 0,
         _ => sum,
     }
 }
@@ -61,99 +49,73 @@ fn with_byte(before: Tally, byte: u8) -> Tally
     ensures { result ≡ with_byte before byte }
 {
     let place = before.count % 4;
-    let sum = wrapping_add_u64(before.sum, worth(place, byte));
+    let sum = before.sum.wrapping_add(worth(place, byte));
     Tally {
-        count: wrapping_add_u64(before.count, 1),
+        count: before.count.wrapping_add(1),
         sum,
-        sums: wrapping_add_u64(before.sums, at_word_end(place, sum)),
+        sums: before.sums.wrapping_add(at_word_end(place, sum)),
     }
 }
 
-// The bytes of a chunk from one place to another, one by one.
-fn with_bytes(before: Tally, chunk: &[u8], from: usize, to: usize) -> Tally
-    requires { (from ≤ to) × (to ≤ length chunk.now) }
-    ensures { tallied_of before (drop from chunk.now) ≡ tallied_of result (drop to chunk.now) }
+// Bytes more, one by one.
+fn with_bytes(before: Tally, bytes: &[u8]) -> Tally
+    ensures { result ≡ tallied_of before bytes.now }
 {
     let mut tally = before;
-    let mut i = from;
-    while i < to {
-        tally = with_byte(tally, chunk[i]);
-        i += 1;
+    for byte in bytes {
+        tally = with_byte(tally, *byte);
     }
     tally
 }
 
-// Four bytes as a word, the first of them the lowest.
-fn word_at(chunk: &[u8], at: usize) -> u64
-    requires { at + 4 ≤ length chunk.now }
-    ensures { result ≡ slice_index chunk.now at + slice_index chunk.now (at + 1) * 256 + slice_index chunk.now (at + 2) * 65536 + slice_index chunk.now (at + 3) * 16777216 }
+// One word more, where a word begins: four bytes at once, the first of them the lowest.
+fn with_word(before: Tally, word: [u8; 4]) -> Tally
+    ensures { WordsTallied before word result }
 {
-    byte_u64(chunk[at])
-        + byte_u64(chunk[at + 1]) * 256
-        + byte_u64(chunk[at + 2]) * 65536
-        + byte_u64(chunk[at + 3]) * 16777216
-}
-
-// One word more, where a word begins.
-fn with_word(before: Tally, chunk: &[u8], at: usize) -> Tally
-    requires { at + 4 ≤ length chunk.now }
-    ensures { WordTallied before chunk.now at result }
-{
-    let sum = wrapping_add_u64(before.sum, word_at(chunk, at));
+    let sum = before.sum.wrapping_add(u64::from(u32::from_le_bytes(word)));
     Tally {
-        count: wrapping_add_u64(before.count, 4),
+        count: before.count.wrapping_add(4),
         sum,
-        sums: wrapping_add_u64(before.sums, sum),
+        sums: before.sums.wrapping_add(sum),
     }
 }
 
-// Four words at a time, from a place on where a word begins; nothing where none does.
-fn with_words(before: Tally, chunk: &[u8], from: usize) -> TalliedTo
-    requires { from ≤ length chunk.now }
-    ensures { WordsTallied before chunk.now from result }
+fn with_words(before: Tally, words: &[[u8; 4]]) -> Tally
+    ensures { WordsTallied before (bytes_of words.now) result }
 {
     let mut tally = before;
-    let mut next = from;
-    if 0 < before.count % 4 {
-        return TalliedTo { tally, next };
+    for word in words {
+        tally = with_word(tally, *word);
     }
-    while 16 <= chunk.len() - next {
-        tally = with_word(tally, chunk, next);
-        tally = with_word(tally, chunk, next + 4);
-        tally = with_word(tally, chunk, next + 8);
-        tally = with_word(tally, chunk, next + 12);
-        next += 16;
-    }
-    TalliedTo { tally, next }
+    tally
 }
 
 // How many bytes there are to the end of the word that has begun, of so many.
 fn to_word_end(count: u64, len: usize) -> usize
     ensures { result ≤ len }
 {
-    let begun = count % 4;
-    if begun == 0 {
-        return 0;
+    match count % 4 {
+        0 => 0,
+        begun => len.min(4 - begun as usize),
     }
-    let left = 4 - begun as usize;
-    if left < len { left } else { len }
 }
 
 // With the bytes of a chunk after those before.
 pub fn tallied(before: Tally, chunk: &[u8]) -> Tally
     ensures { result ≡ tallied_of before chunk.now }
 {
-    let head = to_word_end(before.count, chunk.len());
-    let begun = with_bytes(before, chunk, 0, head);
-    let words = with_words(begun, chunk, head);
-    let tally = words.tally;
-    let next = words.next;
-    with_bytes(tally, chunk, next, chunk.len())
+    let (head, rest) = chunk.split_at(to_word_end(before.count, chunk.len()));
+    let begun = with_bytes(before, head);
+    if begun.count % 4 != 0 {
+        return with_bytes(begun, rest);
+    }
+    let (words, last) = rest.as_chunks::<4>();
+    with_bytes(with_words(begun, words), last)
 }
 
 // Whether two passes had the same count and checksum.
 pub fn same_tally(a: Tally, b: Tally) -> bool
     ensures { result ≡ same_tally a b }
 {
-    (a.count == b.count) & (a.sum == b.sum) & (a.sums == b.sums)
+    a == b
 }

@@ -4,4 +4,4 @@ use Rattle.tally.proofs.with_byte.Goals as goal
 
 pub returns : goal.returns
 unfolding with_byte
-returns c = rw (c.wrapping_add_u64-2.ensures.value, c.at_word_end.ensures, c.wrapping_add_u64.ensures.value, c.wrapping_add_u64-sum.ensures.value, c.worth.ensures)
+returns c = rw (c.at_word_end.ensures, c.worth.ensures)

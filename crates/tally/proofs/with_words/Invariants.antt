@@ -1,10 +1,7 @@
--- `tally::with_words` meets its contract. Assumes nothing.
-use Rattle.std.proofs.Common.{◌≡◌, ◌-◌, ◌%◌, ◌≤◌, length, drop}
-use Rattle.tally.specs.Tally.{tallied_of}
+-- The words so far are tallied, and the next word begins. Assumes nothing.
+use Rattle.std.proofs.Common.{◌≡◌, ◌%◌, drop}
+use Rattle.tally.specs.Tally.{tallied_of, bytes_of}
 use Rattle.tally.proofs.with_words.Given as goal
 
-abbrev pub invariant-loop-next : goal.invariant-loop-next
-invariant-loop-next l = (l.next ≤ length l.chunk) × (l.tally.count % 4 ≡ 0) × (tallied_of l.initial.tally (drop l.from l.chunk) ≡ tallied_of l.tally (drop l.next l.chunk))
-
-abbrev pub decreases-loop-next : goal.decreases-loop-next
-decreases-loop-next l = length l.chunk - l.next
+abbrev pub invariant-loop-word : goal.invariant-loop-word
+invariant-loop-word l = l.fn.before.count % 4 ≡ 0 → (tallied_of l.fn.before (bytes_of l.words) ≡ tallied_of l.tally (bytes_of (drop l.word-index l.words))) × (l.tally.count % 4 ≡ 0)
