@@ -1,39 +1,19 @@
 // Some seconds: their inputs from the source, as many as the chunk tells and the lent rows have places for, and their rows.
-ghost use Rattle.std.specs.Prelude.{◌≡◌, ◌≤◌, ◌-◌, ◌*◌, length, take};
+ghost use Rattle.std.specs.Prelude.{◌≡◌, ◌≤◌, ◌*◌, length, take};
 ghost use Rattle.rules.specs.Seconds.{inputs_each};
 ghost use Rattle.held_inputs.specs.Filling.{inputs_in};
-ghost use Rattle.course_work.specs.Moves.{Moves, with_source, waiting_for, SecondsMoved, NoInputs, SomeAsked};
+ghost use Rattle.course_work.specs.Moves.{Moves, waiting_for, SecondsMoved, NoInputs, SomeAsked};
 
-use course::state::{Course, Halt, Moved, halt_for};
-use held_inputs::fill::fill;
+use course::state::{Course, Halt, Moved};
+use held_inputs::fill::{Filled, fill};
 use input_source::source::{InputSource, end_inputs, has_ended};
 use rules::limits::ROW_COLUMNS;
 use steady::seconds::seconds;
-use words::arithmetic::{lesser, wide};
 
-// The most seconds of one call.
-const MOST_BATCH: usize = 256;
+// The most seconds of one call, and the numbers that they are handed.
+pub const MOST_BATCH: usize = 256;
 
-// How many seconds one call works: as many as have places for their rows.
-fn batch(left: u32, places: usize) -> usize
-    requires { (1 ≤ left) × (1 ≤ places) }
-    ensures { (1 ≤ result) × (result ≤ 256) × (result ≤ left) × (result ≤ places) }
-{
-    lesser(lesser(wide(left), MOST_BATCH), places)
-}
-
-fn with_source(course: Course, source: InputSource) -> Course
-    ensures { result ≡ with_source course source }
-{
-    let station = course.station;
-    let run = course.run;
-    Course {
-        station,
-        run,
-        source,
-        left: course.left,
-    }
-}
+const MOST_NUMBERS: usize = 3 * MOST_BATCH;
 
 // A call that works nothing and ends for this.
 fn waiting(course: Course, next: usize, halt: Halt) -> Moved
@@ -52,21 +32,17 @@ fn without_inputs(course: Course, source: InputSource, next: usize, ended: bool)
     ensures { NoInputs course source next ended result }
 {
     let after = end_inputs(source);
-    if ended {
-        if has_ended(source) {
-            return waiting(course, next, Halt::Broken);
-        }
-        return waiting(with_source(course, after), next, Halt::Further);
+    if !ended {
+        return waiting(Course { source, ..course }, next, Halt::Input);
     }
-    waiting(with_source(course, source), next, Halt::Input)
-}
-
-// A count is cast in a function of its own, so that its caller has only the difference to show.
-fn fewer(left: u32, count: usize) -> u32
-    requires { count ≤ left }
-    ensures { result ≡ left - count }
-{
-    left - count as u32
+    if has_ended(source) {
+        return waiting(course, next, Halt::Broken);
+    }
+    let course = Course {
+        source: after,
+        ..course
+    };
+    waiting(course, next, Halt::Further)
 }
 
 // What the source tells of so many seconds, as the seconds take it: load, solar and sheddable load of each, one after the other. A load
@@ -81,15 +57,13 @@ fn handed_over(
     requires { (count ≤ length loads.now) × (count ≤ length solars.now) × (count ≤ length sheddables.now) × (3 * count ≤ length inputs.old) }
     ensures { (result ≡ 3 * count) × (inputs_each (take (3 * count) inputs.new) ≡ inputs_in count loads.now solars.now sheddables.now) }
 {
-    let mut i = 0;
-    while i < count {
+    for i in 0..count {
         let at = 3 * i;
         inputs[at] = loads[i];
         inputs[at + 1] = solars[i];
         inputs[at + 2] = sheddables[i];
-        i += 1;
     }
-    3 * i
+    3 * count
 }
 
 // The seconds of these inputs, into the lent rows.
@@ -106,24 +80,19 @@ fn with_inputs(
     requires { (count ≤ 256) × (count ≤ course.left) × (count ≤ length loads.now) × (count ≤ length solars.now) × (count ≤ length sheddables.now) }
     ensures { SecondsMoved course source next (inputs_in count loads.now solars.now sheddables.now) rows.old result rows.new }
 {
-    let mut inputs = [0u32; 768];
+    let mut inputs = [0u32; MOST_NUMBERS];
     let numbers = handed_over(count, loads, solars, sheddables, &mut inputs);
-    let station = course.station;
-    let run = course.run;
-    let worked = seconds(station, run, &inputs[..numbers], rows);
-    let after = worked.run;
-    let ended = worked.ended;
-    let left = fewer(course.left, worked.seconds);
+    let worked = seconds(course.station, course.run, &inputs[..numbers], rows);
     Moved {
         course: Course {
-            station,
-            run: after,
+            run: worked.run,
             source,
-            left,
+            left: course.left - worked.seconds as u32,
+            ..course
         },
         next,
         seconds: worked.seconds,
-        halt: halt_for(ended),
+        halt: Halt::from(worked.ended),
     }
 }
 
@@ -141,16 +110,19 @@ fn some_seconds(
     requires { SomeAsked course loads.old solars.old sheddables.old rows.old }
     ensures { Moves course chunk.now at ended rows.old result rows.new }
 {
-    let source = course.source;
-    let run = course.run;
-    let filled = fill(source, run.done, chunk, at, loads, solars, sheddables);
-    let known = filled.source;
-    let count = filled.seconds;
-    let next = filled.next;
-    if count == 0 {
-        return without_inputs(course, known, next, ended);
+    let done = course.run.done;
+    let filled = fill(course.source, done, chunk, at, loads, solars, sheddables);
+    let Filled {
+        source,
+        next,
+        seconds,
+    } = filled;
+    if seconds == 0 {
+        return without_inputs(course, source, next, ended);
     }
-    with_inputs(course, known, next, count, loads, solars, sheddables, rows)
+    with_inputs(
+        course, source, next, seconds, loads, solars, sheddables, rows,
+    )
 }
 
 // Works up to 256 seconds with the chunk from a place on, as many as the chunk tells, are left and have a place for their row. `ended`
@@ -158,19 +130,18 @@ fn some_seconds(
 pub fn work(course: Course, chunk: &[u8], at: usize, ended: bool, rows: &mut [u64]) -> Moved
     ensures { Moves course chunk.now at ended rows.old result rows.new }
 {
-    let next = lesser(at, chunk.len());
-    let left = course.left;
-    if left == 0 {
+    let next = at.min(chunk.len());
+    if course.left == 0 {
         return waiting(course, next, Halt::AllWorked);
     }
     let places = rows.len() / ROW_COLUMNS;
     if places == 0 {
         return waiting(course, next, Halt::Room);
     }
-    let want = batch(left, places);
-    let mut loads = [0u32; 256];
-    let mut solars = [0u32; 256];
-    let mut sheddables = [0u32; 256];
+    let want = (course.left as usize).min(MOST_BATCH).min(places);
+    let mut loads = [0u32; MOST_BATCH];
+    let mut solars = [0u32; MOST_BATCH];
+    let mut sheddables = [0u32; MOST_BATCH];
     some_seconds(
         course,
         chunk,

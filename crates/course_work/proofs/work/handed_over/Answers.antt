@@ -1,4 +1,5 @@
 -- `handed_over` meets its contract: second after second. Assumes nothing.
+use mathlib.Core.Path.{refl}
 use native.Mathlib.Omega.{arith}
 use lib.ListN.{length-set}
 use Rattle.course_work.proofs.HandedOver.{handing-start, handing-more, handing-over}
@@ -20,4 +21,4 @@ pub shape_of-inputs : goal.shape_of-inputs
 shape_of-inputs c = c.loop-i.invariant.size
 
 pub returns : goal.returns
-returns c = handing-over _ _ _ _ _ _ _ c.loop-i.invariant (omega (arith, c.loop-i-test.false))
+returns c = (refl, (handing-over _ _ _ _ _ _ _ c.loop-i.invariant (omega (arith, c.loop-i-test.false))).1)
