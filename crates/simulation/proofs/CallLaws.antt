@@ -1,21 +1,31 @@
 -- Turn after turn of a call. Assumes nothing.
-use Prim.Native.Nat.{ℕ, ◌+◌, ◌-◌, ◌*◌, ◌≤◌, ◌<◌, min}
+use Prim.Native.Nat.{ℕ, ◌+◌, ◌-◌, ◌≤◌, ◌<◌, min}
 use mathlib.Core.Path.{◌≡◌, refl, sym, ap, ◌∙◌, subst}
 use mathlib.Core.Bool.{Bool, true, false}
 use mathlib.Core.List.{List, [], ◌++◌, append_assoc}
 use native.Mathlib.Omega.{arith}
 use lib.ListN.{length, take, drop, length-append, drop_of_length-le}
-use lib.Dec.{leb}
+use denote.Enum.Declared.{tag_of}
+use lib.Dec.{eqb, leb}
 use lib.Seq.{drop-drop}
 use borrow.Author.Tests.{leb-true, leb-false}
 use Rattle.rules.specs.declared.run.Inputs.{Inputs}
+use Rattle.rules.proofs.Tests.{never}
+use Rattle.run_phases.specs.contracts.state.Wants.{the_type}
 use Rattle.run_phases.specs.declared.state.Simulation.{Simulation}
 use Rattle.run_phases.specs.declared.state.Turn.{Turn}
 use Rattle.run_phases.specs.declared.state.Wants.{Wants}
 use Rattle.run_texts.specs.Text.{to_print}
 use Rattle.run_texts.specs.Coming.{Comes, ComesOn, weight, is_before_sets}
 use Rattle.simulation.specs.Turns.{Ended, Moved}
-use Rattle.simulation.specs.Calls.{goes_on, Stopped, Called}
+use Rattle.simulation.specs.Calls.{goes_on, Stopped}
+
+-- the test of what a turn wants
+pub further-on : (w : Wants) → eqb (tag_of the_type w) 0 ≡ true → goes_on w ≡ true
+further-on Wants.Further e = refl
+further-on Wants.Input e = never e
+further-on Wants.Room e = never e
+further-on Wants.Nothing e = never e
 
 -- whether a further turn is to come, as a number
 abbrev pub count : Bool → ℕ
@@ -110,9 +120,9 @@ module _ (s : Simulation) (chunk : List ℕ) (at : ℕ) (ended : Bool) (out₀ :
 
     some-on : (w : Wants) → Ended w t chunk ended out r → goes_on w ≡ true → weight r.simulation < weight s
     some-on Wants.Further e f = let z = e in omega (arith, z, g.less)
-    some-on Wants.Input e f = absurd (let z : ◌≡◌ {A = ℕ} 0 1 = cc f in omega arith)
-    some-on Wants.Room e f = absurd (let z : ◌≡◌ {A = ℕ} 0 1 = cc f in omega arith)
-    some-on Wants.Nothing e f = absurd (let z : ◌≡◌ {A = ℕ} 0 1 = cc f in omega arith)
+    some-on Wants.Input e f = never f
+    some-on Wants.Room e f = never f
+    some-on Wants.Nothing e f = never f
 
     pub going_on : Going out' r
     going_on =
@@ -131,39 +141,3 @@ module _ (s : Simulation) (chunk : List ℕ) (at : ℕ) (ended : Bool) (out₀ :
           some = λ h f. some-on r.wants m.wants f;
           stopped = stops r.wants m.wants;
         }
-
-    -- each turn that goes on comes nearer to the end, and one that does not is the last
-    lighter : (w : Wants) (b : Bool) → b ≡ goes_on w → Ended w t chunk ended out r → 2 * weight r.simulation + count b < 2 * weight t.simulation + 1
-    lighter Wants.Further true e h = let z = h in omega (arith, z)
-    lighter Wants.Further false e h = absurd (let z : ◌≡◌ {A = ℕ} 0 1 = cc e in omega arith)
-    lighter Wants.Input true e h = absurd (let z : ◌≡◌ {A = ℕ} 0 1 = cc e in omega arith)
-    lighter Wants.Input false e h = omega (arith, m.less)
-    lighter Wants.Room true e h = absurd (let z : ◌≡◌ {A = ℕ} 0 1 = cc e in omega arith)
-    lighter Wants.Room false e h = omega (arith, m.less)
-    lighter Wants.Nothing true e h = absurd (let z : ◌≡◌ {A = ℕ} 0 1 = cc e in omega arith)
-    lighter Wants.Nothing false e h = omega (arith, m.less)
-
-    pub turns-fall : (b : Bool) → b ≡ goes_on r.wants → 2 * weight r.simulation + count b < 2 * weight t.simulation + 1
-    turns-fall b e = lighter r.wants b e m.wants
-
-  ends-stopped : (w : Wants) (r : Turn) → goes_on w ≡ false → StoppedYet w r → Stopped w s chunk ended out₀ r
-  ends-stopped Wants.Further r f h = absurd (let z : ◌≡◌ {A = ℕ} 0 1 = cc f in omega arith)
-  ends-stopped Wants.Input r f h = h
-  ends-stopped Wants.Room r f h = h
-  ends-stopped Wants.Nothing r f h = h
-
-  pub called : (out : List ℕ) (t : Turn) → Going out t → goes_on t.wants ≡ false → Called s chunk at ended out₀ t out
-  called out t g f =
-      record {
-        worked = g.worked;
-        left_is = g.left_is;
-        text = g.text;
-        inputs = g.inputs;
-        within = g.within;
-        fits = g.fits;
-        kept = g.kept;
-        less = g.less;
-        small = g.small;
-        early = g.early;
-        wants = ends-stopped t.wants t f g.stopped;
-      }

@@ -2,6 +2,7 @@
 use Rattle.std.specs.Prelude.{if◌then◌else◌}
 use Prim.Native.Nat.{ℕ, zero, suc, ◌+◌, ◌-◌, ◌≤◌, ◌<◌, min}
 use mathlib.Core.Path.{◌≡◌, refl, sym, ap, ◌∙◌, subst}
+use mathlib.Core.Logic.{◌⊎◌, inl, inr}
 use mathlib.Core.Bool.{Bool, true, false}
 use mathlib.Core.List.{List, [], ◌∷◌, ◌++◌, append-nil, append_assoc}
 use native.Mathlib.Omega.{arith}
@@ -79,7 +80,7 @@ module _ (t : Turn) (chunk : List ℕ) (ended : Bool) (out : List ℕ) (at_in : 
 
   -- ---- by the phase
 
-  pub refusal-turn : (refusal : Refusal) → s.phase ≡ Phase.Refusal refusal → (r : Turn) (out' : List ℕ) → LineMoved t out r out' → Moved t chunk ended out r out'
+  refusal-turn : (refusal : Refusal) → s.phase ≡ Phase.Refusal refusal → (r : Turn) (out' : List ℕ) → LineMoved t out r out' → Moved t chunk ended out r out'
   unfolding text_of line_of
   refusal-turn refusal e =
       line-turned
@@ -88,7 +89,7 @@ module _ (t : Turn) (chunk : List ℕ) (ended : Bool) (out : List ℕ) (at_in : 
       (let a = ap rank e in let b = ap (λ (p : Phase). rank (phase_after p)) e in omega (arith, a, b))
       (λ n b. late e refl b)
 
-  pub heading-turn : s.phase ≡ Phase.Heading → (r : Turn) (out' : List ℕ) → LineMoved t out r out' → Moved t chunk ended out r out'
+  heading-turn : s.phase ≡ Phase.Heading → (r : Turn) (out' : List ℕ) → LineMoved t out r out' → Moved t chunk ended out r out'
   unfolding text_of line_of
   heading-turn e =
       line-turned
@@ -96,6 +97,11 @@ module _ (t : Turn) (chunk : List ℕ) (ended : Bool) (out : List ℕ) (at_in : 
       (λ rest xs c. subst (λ (p : Phase). ComesIn (phase_after p) (with_phase s (phase_after p)) rest xs) (sym e) (subst (λ (p : Phase). ComesIn p s rest xs) e c))
       (let a = ap rank e in let b = ap (λ (p : Phase). rank (phase_after p)) e in omega (arith, a, b))
       (λ n b. ap (λ (p : Phase). is_before_sets (phase_after p)) e)
+
+  -- what a run begins with
+  pub first-turn : ((refusal : Refusal) × (s.phase ≡ Phase.Refusal refusal)) ⊎ (s.phase ≡ Phase.Heading) → (r : Turn) (out' : List ℕ) → LineMoved t out r out' → Moved t chunk ended out r out'
+  first-turn (inl (refusal, e)) = refusal-turn refusal e
+  first-turn (inr e) = heading-turn e
 
   pub set-heading-turn : s.phase ≡ Phase.SetHeading → ended ≡ true → (r : Turn) (out' : List ℕ) → LineMoved t out r out' → Moved t chunk ended out r out'
   unfolding text_of line_of set_texts
@@ -112,8 +118,13 @@ module _ (t : Turn) (chunk : List ℕ) (ended : Bool) (out : List ℕ) (at_in : 
       (λ rest h xs c. subst (λ (p : Phase). ComesIn p s (drop (length chunk) chunk ++ rest) xs) (sym e) (subst (λ (p : Phase). ComesIn p s (drop t.next chunk ++ rest) xs) e c))
       (omega arith) at_in out-in (omega arith) (λ n b. b) (refl, n)
 
-  pub finished-turn : finished s.phase ≡ true → Moved t chunk ended out (waiting_for t Wants.Nothing) out
+  finished-turn : finished s.phase ≡ true → Moved t chunk ended out (waiting_for t Wants.Nothing) out
   finished-turn e = quiet t chunk ended out s t.next Wants.Nothing refl (λ xs l. refl) (λ rest h xs c. c) at_in (omega arith) out-in (omega arith) (λ n b. b) e
+
+  -- what it ends with
+  pub last-turn : (s.phase ≡ Phase.Over) ⊎ (s.phase ≡ Phase.Broken) → Moved t chunk ended out (waiting_for t Wants.Nothing) out
+  last-turn (inl e) = finished-turn (ap finished e)
+  last-turn (inr e) = finished-turn (ap finished e)
 
   -- ---- the sets
 

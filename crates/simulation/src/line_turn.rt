@@ -1,6 +1,7 @@
 // The sink of single lines: a heading, a set's line or a refusal's.
 ghost use Rattle.std.specs.Prelude.{◌≡◌, ◌≤◌, [], length};
 ghost use Rattle.rows.specs.Written.{TextPut};
+ghost use Rattle.run_phases.specs.declared.state.Wants.{Wants};
 ghost use Rattle.run_texts.specs.Text.{line_of, set_line_at, with_phase};
 ghost use Rattle.simulation.specs.Turns.{LineMoved};
 
@@ -28,42 +29,34 @@ fn put_set(states: [SetState; 8], place: usize, tail: &mut [u8]) -> Result<usize
     if 8 <= place {
         return put_nothing(tail);
     }
-    let state = states[place];
-    put_set_line((place + 1) as u32, state, tail)
+    put_set_line((place + 1) as u32, states[place], tail)
 }
 
 // The line that a phase has, at the front of the buffer's tail.
+#[tactic(auto, unfolding(run_texts::specs::Text::line_of))]
 fn put_line_of(phase: Phase, states: [SetState; 8], tail: &mut [u8]) -> Result<usize, Refusal>
     ensures { TextPut (line_of phase states) tail.old result tail.new }
 {
     match phase {
         Phase::Refusal(refusal) => put_refused(refusal, tail),
         Phase::Heading => put_row_heading(tail),
-        Phase::Seconds => put_nothing(tail),
         Phase::SetHeading => put_set_heading(tail),
         Phase::SetLine(place) => put_set(states, place, tail),
-        Phase::Over => put_nothing(tail),
-        Phase::Broken => put_nothing(tail),
+        Phase::Seconds | Phase::Over | Phase::Broken => put_nothing(tail),
     }
 }
 
-pub(crate) fn with_phase(simulation: Simulation, phase: Phase) -> Simulation
-    ensures { result ≡ with_phase simulation phase }
+// A turn that hands nothing over, and goes on in another phase.
+pub(crate) fn in_phase(t: Turn, phase: Phase) -> Turn
+    ensures { result ≡ record { simulation = with_phase t.simulation phase; next = t.next; written = t.written; wants = Wants.Further } }
 {
-    let course = simulation.course;
-    Simulation { phase, course }
-}
-
-// A turn that hands nothing over and ends for this.
-pub(crate) fn waiting(t: Turn, wants: Wants) -> Turn
-    ensures { result ≡ record { simulation = t.simulation; next = t.next; written = t.written; wants = wants } }
-{
-    let simulation = t.simulation;
     Turn {
-        simulation,
-        next: t.next,
-        written: t.written,
-        wants,
+        simulation: Simulation {
+            phase,
+            ..t.simulation
+        },
+        wants: Wants::Further,
+        ..t
     }
 }
 
@@ -72,19 +65,17 @@ pub(crate) fn line_turn(t: Turn, out: &mut [u8]) -> Turn
     requires { t.written ≤ length out.old }
     ensures { LineMoved t out.old result out.new }
 {
-    let simulation = t.simulation;
-    let phase = simulation.phase;
-    let course = simulation.course;
-    let states = set_states(course);
+    let phase = t.simulation.phase;
+    let states = set_states(t.simulation.course);
     let at = t.written;
-    let answer = put_line_of(phase, states, &mut out[at..]);
-    match answer {
+    match put_line_of(phase, states, &mut out[at..]) {
         Ok(size) => Turn {
-            simulation: with_phase(simulation, phase_after(phase)),
-            next: t.next,
             written: at + size,
-            wants: Wants::Further,
+            ..in_phase(t, phase_after(phase))
         },
-        Err(_) => waiting(t, Wants::Room),
+        Err(_) => Turn {
+            wants: Wants::Room,
+            ..t
+        },
     }
 }

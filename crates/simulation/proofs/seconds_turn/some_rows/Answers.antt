@@ -16,7 +16,7 @@ tables c =
     record { sets-length = good.0.1.0.1; configs-length = good.1.0.1.0.1 }
 
 fits : (c : After-work-moved) → 13 * c.work-moved.result.seconds ≤ length c.work-moved.new.rows
-fits c = numbers_fit c.args.t c.args.chunk.now c.args.ended c.args.out.now c.args.rows.now c.requires.0 c.requires.1 (tables c.before.before.before.before.before.before.before.before) _ _ c.work-moved.ensures
+fits c = numbers_fit c.args.t c.args.chunk.now c.args.ended c.args.out.now c.args.rows.now c.requires.0 c.requires.1 (tables c.before.before.before.before.before.before.before) _ _ c.work-moved.ensures
 
 -- the rows were put into the tail that was lent
 put : (c : After-put_rows-put) → LinesPut (take (13 * c.work-moved.result.seconds) c.work-moved.new.rows) (drop c.args.t.written c.args.out.now) c.put_rows-put.result c.put_rows-put.new.out
@@ -42,4 +42,4 @@ overflow_add-result c =
 
 pub returns : goal.returns
 returns c =
-    rw (c.wants_for.ensures, c.phase_for.ensures) (rows-turn c.args.t c.args.chunk.now c.args.ended c.args.out.now c.args.rows.now c.requires.0 c.requires.1 (tables (goal.at.returns c).Start) _ _ c.work-moved.ensures _ _ (put (goal.at.returns c).After-put_rows-put))
+    rw (c.from-2.ensures, c.from.ensures) (rows-turn c.args.t c.args.chunk.now c.args.ended c.args.out.now c.args.rows.now c.requires.0 c.requires.1 (tables (goal.at.returns c).Start) _ _ c.work-moved.ensures _ _ (put (goal.at.returns c).After-put_rows-put))

@@ -8,4 +8,4 @@ returns-then-ended c =
 
 pub returns : goal.returns
 returns c =
-    λ chunk e at_in. rw (c.passed_by.ensures, e) (passing-turn c.args.t chunk c.args.ended c.args.out.now at_in c.requires.1 c.requires.0 c.if-ended.false)
+    λ chunk e at_in. rw e (passing-turn c.args.t chunk c.args.ended c.args.out.now at_in c.requires.1 c.requires.0 c.if-ended.false)
