@@ -26,10 +26,10 @@ fn put_nothing(tail: &mut [u8]) -> Result<usize, Refusal>
 fn put_set(states: [SetState; 8], place: usize, tail: &mut [u8]) -> Result<usize, Refusal>
     ensures { TextPut (set_line_at states place) tail.old result tail.new }
 {
-    if 8 <= place {
-        return put_nothing(tail);
+    match states.get(place) {
+        Some(state) => put_set_line((place + 1) as u32, *state, tail),
+        None => put_nothing(tail),
     }
-    put_set_line((place + 1) as u32, states[place], tail)
 }
 
 // The line that a phase has, at the front of the buffer's tail.
