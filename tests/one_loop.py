@@ -1,0 +1,111 @@
+#!/usr/bin/env python3
+"""one_loop.py: every program runs its machine in the one loop (`perform::turns::run`).
+
+It fails where another file of a library or a program calls `perform`, where the loop calls anything but the program's decisions and
+`perform`, where a machine's crate is driven by no program or by two, and where a program's decisions are said by other definitions than
+its machine's own. Before the sources it is handed small ones that are wrong, each of which it must tell.
+"""
+import glob, os, re, sys
+
+ROOT = os.path.dirname(os.path.dirname(os.path.abspath(__file__)))
+LOOP = 'perform/src/turns.rt'
+PAGE = 'perform/src/lib.rt'
+MACHINE = re.compile(r'\b\w+_machine\b')
+# what the loop may call by a path: the program's decisions, and the names of what it is handed
+MAY_NAME = {'P', 'R', 'Self', 'Files', 'Action', 'Why', 'Word', 'u64'}
+SAID = ('opens', 'asks', 'steps')
+
+
+def code_of(text):
+    """the text without its comments"""
+    return '\n'.join(re.sub(r'//.*', '', line) for line in text.split('\n'))
+
+
+def body_of(text):
+    """the text from its first function on, without clauses"""
+    lines = [l for l in code_of(text).split('\n') if not re.match(r'\s*(ghost |use |ensures|requires)', l)]
+    return '\n'.join(lines)
+
+
+def decisions_in(path, text):
+    """what is wrong with a program's decisions, and the machine that they drive"""
+    told, driven = [], set(MACHINE.findall(code_of(text)))
+    for name in re.findall(r'^impl Decisions for (\w+)', text, re.M):
+        if len(driven) != 1:
+            told.append('%s: %s names %d machines and not one' % (path, name, len(driven)))
+        ghosts = {n: m for m, names in re.findall(r'^ghost use Rattle\.(\w+)\.specs\.[\w.]+\.\{(.*)\};', text, re.M) for n in names.split(', ')}
+        for item in SAID:
+            said = re.search(r'^    ghost %s = \{ (\w+) \};' % item, text, re.M)
+            if not said or ghosts.get(said.group(1)) not in driven:
+                told.append('%s: `%s` of %s is no definition of its machine' % (path, item, name))
+        return told, driven
+    return told, set()
+
+
+def faults_of(files, machines):
+    """what is wrong with these sources, by their paths below crates/, and these machines' crates"""
+    told, drives = [], {}
+    for path, text in sorted(files.items()):
+        if path not in (LOOP, PAGE) and re.search(r'(?<!fn )\bperform\(', code_of(text)):
+            told.append('%s calls `perform`' % path)
+        faults, driven = decisions_in(path, text)
+        told += faults
+        for machine in driven:
+            drives.setdefault(machine, []).append(path)
+    loop = body_of(files.get(LOOP, ''))
+    if len(re.findall(r'\bperform\(', loop)) != 1:
+        told.append('the loop does not call `perform` once')
+    for path in sorted(set(re.findall(r'(\w+)::', loop)) - MAY_NAME - {'fs'}):
+        told.append('the loop calls more than the decisions and `perform`: %s' % path)
+    for machine in sorted(machines):
+        if len(drives.get(machine, [])) != 1:
+            told.append('%s is driven by %d programs and not one' % (machine, len(drives.get(machine, []))))
+    return told
+
+
+def must_tell():
+    """wrong sources, each with what has to be told of them"""
+    loop = 'use crate::perform;\nfn run() {\n    P::next(perform());\n}\n'
+    program = ('ghost use Rattle.one_machine.specs.Holds.{Opens, Steps, asks};\nuse one_machine::next;\nimpl Decisions for One {\n'
+               '    ghost opens = { Opens };\n    ghost asks = { asks };\n    ghost steps = { Steps };\n}\n')
+    right = {LOOP: loop, PAGE: 'pub fn perform() {\n}\n', 'one/src/program.rt': program}
+    one = {'one_machine'}
+    cases = [
+        (right, one, []),
+        (right | {'one/src/main.rt': 'fn main() {\n    perform();\n}\n'}, one, ['one/src/main.rt calls `perform`']),
+        (right | {'one/src/main.rt': '// perform()\nfn main() {\n}\n'}, one, []),
+        (right | {LOOP: loop.replace('perform());', 'perform()); perform();')}, one, ['the loop does not call `perform` once']),
+        (right | {LOOP: loop.replace('P::next(perform());', 'libc::read(perform());')}, one, ['the loop calls more than the decisions and `perform`: libc']),
+        (right, one | {'a_machine'}, ['a_machine is driven by 0 programs and not one']),
+        (right | {'two/src/program.rt': program}, one, ['one_machine is driven by 2 programs and not one']),
+        (right | {'one/src/program.rt': program + 'use a_machine::next;\n'}, one,
+         ['one/src/program.rt: One names 2 machines and not one']),
+        (right | {'one/src/program.rt': program.replace('ghost steps = { Steps }', 'ghost steps = { Anything }')}, one,
+         ['one/src/program.rt: `steps` of One is no definition of its machine']),
+        (right | {'one/src/program.rt': program.replace('    ghost asks = { asks };\n', '')}, one,
+         ['one/src/program.rt: `asks` of One is no definition of its machine']),
+    ]
+    for files, machines, told in cases:
+        if faults_of(files, machines) != told:
+            sys.exit('one_loop.py: of its own case it tells %r and not %r' % (faults_of(files, machines), told))
+    return len(cases)
+
+
+def main():
+    cases = must_tell()
+    files = {}
+    for path in sorted(glob.glob(os.path.join(ROOT, 'crates', '*', 'src', '*.rt'))):
+        crate = os.path.relpath(path, os.path.join(ROOT, 'crates'))
+        if not crate.startswith('measure_'):
+            with open(path, encoding='utf-8') as f:
+                files[crate] = f.read()
+    machines = {os.path.basename(d) for d in glob.glob(os.path.join(ROOT, 'crates', '*_machine'))}
+    told = faults_of(files, machines)
+    for fault in told:
+        print('one_loop.py: ' + fault, file=sys.stderr)
+    if told or len(machines) < 2:
+        sys.exit(1)
+    print('the one loop: %d machines (%s); %d cases of the test itself' % (len(machines), ', '.join(sorted(machines)), cases))
+
+
+main()
