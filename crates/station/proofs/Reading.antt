@@ -53,15 +53,6 @@ row-turn row next v z i m l h e =
     let k : m - i ≡ suc (m - (i + 1)) = omega arith in
     rw (k, e) (set_at row z (replicate (m - (i + 1)) z) v i l ∙ sym (append_snoc row v (replicate (m - (i + 1)) z)))
 
-pub littles-more : (width n : ℕ) (s : List ℕ) → littles width (n + 1) s ≡ littles width n s ++ (little width (drop (width * n) s) ∷ [])
-unfolding littles
-littles-more width zero s = let e : width * 0 ≡ 0 = omega arith in rw e
-littles-more width (suc n) s =
-    let e : width + width * n ≡ width * suc n = omega arith in
-    rw add-one
-    (ap (λ (l : List ℕ). little width s ∷ l)
-    (rw add-one at (littles-more width n (drop width s)) ∙ ap (λ (l : List ℕ). littles width n (drop width s) ++ (little width l ∷ [])) (drop-drop (width * n) width s ∙ ap (λ (k : ℕ). drop k s) e)))
-
 pub sets_more : (n : ℕ) (s : List ℕ) → sets_of (n + 1) s ≡ sets_of n s ++ (set_of (littles 4 16 (drop (64 * n) s)) ∷ [])
 unfolding sets_of
 sets_more zero s = refl

@@ -100,21 +100,13 @@ fn rises_at(points: u32, place: u32, load: u32, next: u32) -> bool
 fn pairs_in_range(points: u32, loads: [u32; layout::PAIRS], rates: [u32; layout::PAIRS]) -> bool
     ensures { result ≡ all_to 5 (λ j. pair_right points j (get_or loads j 0) (get_or rates j 0)) }
 {
-    let mut ok = true;
-    for i in 0..layout::PAIRS {
-        ok = ok & pair_right(points, i as u32, loads[i], rates[i]);
-    }
-    ok
+    (0..layout::PAIRS).all(|i| pair_right(points, i as u32, loads[i], rates[i]))
 }
 
 fn loads_rise(points: u32, loads: [u32; layout::PAIRS]) -> bool
     ensures { result ≡ all_to 4 (λ j. rises points j (get_or loads j 0) (get_or loads (suc j) 0)) }
 {
-    let mut ok = true;
-    for i in 0..RISES {
-        ok = ok & rises_at(points, i as u32, loads[i], loads[i + 1]);
-    }
-    ok
+    (0..RISES).all(|i| rises_at(points, i as u32, loads[i], loads[i + 1]))
 }
 
 // 7

@@ -43,12 +43,6 @@ goes_on l a t b b' at at' f e q =
 pub front_fits : (l t b : List ℕ) (k : ℕ) → Front l t k b → k ≤ length b
 front_fits l t b k f = omega (arith, f.0, ap length f.1 ∙ length-append t (drop (length t) l))
 
--- a byte more at the end of the text at the front
-pub byte_more : (l d b : List ℕ) (k x : ℕ) → length d < length l → Front l d k b → Front l (d ++ (x ∷ [])) (k + 1) (set b k x)
-byte_more l d b k x h f =
-    let e : length (d ++ (x ∷ [])) ≡ length d + 1 = length-append d (x ∷ []) in
-    (omega (arith, f.0), rw (f.1, f.0, e) (stored d l x h))
-
 -- ---- bytes stored one after the other
 
 module _ (l : List ℕ) (at : ℕ) where
