@@ -16,28 +16,21 @@ fn rate_of_station(st: Station, mask: u64, power: u64) -> Result<u64, Refusal>
     requires { (some_file_gives st ≡ true) × Shaped st }
     ensures { result_of result ≡ rate_of st mask power }
 {
-    let setcount = st.setcount;
-    if !(existing_only(setcount, mask) & (u64::count_ones(mask) == 1)) {
+    if !(existing_only(st.setcount, mask) & (mask.count_ones() == 1)) {
         return Err(Refusal::ConfigurationMask(0));
     }
-    let sets = st.sets;
     let named = mask as u32;
-    if capacity(sets, named) < power {
+    if capacity(st.sets, named) < power {
         return Err(Refusal::OverLimit(0));
     }
     let at = next_set(named, 0) as usize;
-    let g = sets[at];
-    let rate = fuel_rate(g, power as u32);
-    // never taken: a set of a file has a rate at every power up to its rating
-    let Ok(value) = rate else {
-        return Err(Refusal::OverLimit(0));
-    };
-    Ok(value)
+    let rate = fuel_rate(st.sets[at], power as u32);
+    // never refused: a set of a file has a rate at every power up to its rating
+    rate.or(Err(Refusal::OverLimit(0)))
 }
 
 pub(crate) fn rate_asked(s: &[u8], mask: u64, power: u64) -> Result<u64, Refusal>
     ensures { result_of result ≡ rate_asked s.now mask power }
 {
-    let st = read_station(s)?;
-    rate_of_station(st, mask, power)
+    rate_of_station(read_station(s)?, mask, power)
 }

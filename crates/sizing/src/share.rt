@@ -16,10 +16,7 @@ fn share_of_set(st: Station, mask: u32, power: u32, set: u64) -> u64
     requires { (some_file_gives st ≡ true) × (power ≤ capacity st.sets mask) }
     ensures { result ≡ share_of_set st mask power set }
 {
-    if set == 0 {
-        return 0;
-    }
-    if (st.setcount as u64) < set {
+    if set == 0 || (st.setcount as u64) < set {
         return 0;
     }
     let watts = watts_of(shares(st.sets, mask, power));
@@ -31,13 +28,11 @@ fn share_of_station(st: Station, mask: u64, power: u64, set: u64) -> Result<u64,
     requires { some_file_gives st ≡ true }
     ensures { result_of result ≡ share_of st mask power set }
 {
-    let setcount = st.setcount;
-    if !(existing_only(setcount, mask) & (0 < mask)) {
+    if !(existing_only(st.setcount, mask) & (0 < mask)) {
         return Err(Refusal::ConfigurationMask(0));
     }
-    let sets = st.sets;
     let named = mask as u32;
-    if capacity(sets, named) < power {
+    if capacity(st.sets, named) < power {
         return Err(Refusal::OverLimit(0));
     }
     Ok(share_of_set(st, named, power as u32, set))
@@ -46,6 +41,5 @@ fn share_of_station(st: Station, mask: u64, power: u64, set: u64) -> Result<u64,
 pub(crate) fn share_asked(s: &[u8], mask: u64, power: u64, set: u64) -> Result<u64, Refusal>
     ensures { result_of result ≡ share_asked s.now mask power set }
 {
-    let st = read_station(s)?;
-    share_of_station(st, mask, power, set)
+    share_of_station(read_station(s)?, mask, power, set)
 }

@@ -3,12 +3,9 @@ use mathlib.Core.Path.{ap, ◌∙◌}
 use Rattle.rules.specs.Answers.{judged}
 use Rattle.rules.specs.Sizing.{station_check}
 use Rattle.sizing.specs.Screen.{screen_verdict}
+use Rattle.sizing.proofs.SheetAsked.{zero-for}
 use Rattle.sizing.proofs.sizing_check_station.Goals as goal
 
-pub returns-in-Ok : goal.returns-in-Ok
+pub returns : goal.returns
 unfolding station_check
-returns-in-Ok c = c.judged.ensures ∙ ap (λ a. screen_verdict (judged a)) c.in-Ok.ensures
-
-pub returns-in-Err : goal.returns-in-Err
-unfolding station_check
-returns-in-Err c = c.refused.ensures ∙ ap (λ a. screen_verdict (judged a)) c.in-Err.ensures
+returns c = c.into.ensures ∙ rw c.and.ensures (zero-for c.read_station.result) ∙ ap (λ a. screen_verdict (judged a)) c.read_station.ensures

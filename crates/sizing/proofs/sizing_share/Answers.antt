@@ -4,4 +4,4 @@ use Rattle.sizing.specs.Screen.{screen_answer}
 use Rattle.sizing.proofs.sizing_share.Goals as goal
 
 pub returns : goal.returns
-returns c = c.answered.ensures ∙ ap screen_answer c.share_asked.ensures
+returns c = c.into.ensures ∙ ap screen_answer c.share_asked.ensures

@@ -1,5 +1,6 @@
 -- `sizing::fuel::rate_of_station` meets its contract. Assumes nothing.
-use Rattle.std.specs.Prelude.{Ok}
+use Rattle.std.specs.Prelude.{Result, Ok, Err}
+use Rattle.std.specs.Result.{result_or}
 use Prim.Native.Nat.{ℕ, ◌≤◌}
 use mathlib.Core.Path.{◌≡◌, refl, sym, ap, ap₂, ◌∙◌}
 use mathlib.Core.Bool.{true, ◌&&◌}
@@ -7,13 +8,14 @@ use native.Mathlib.Omega.{arith}
 use lib.Count.{ones}
 use lib.Dec.{eqb}
 use borrow.Author.Tests.{eqb-true}
+use Rattle.rules.specs.declared.answers.Refusal.TheVariants.{OverLimit}
 use Rattle.rules.specs.Numbers.{existing_only}
 use Rattle.rules.specs.StationRecord.{past_end, set_at}
-use Rattle.rules.specs.Answers.{accepted}
+use Rattle.rules.specs.Answers.{result_of}
 use Rattle.rules.specs.Share.{capacity}
 use Rattle.rules.specs.Sizing.{rate_of, rate_of_mask}
 use Rattle.rules.proofs.Tests.{both}
-use Rattle.gensets.specs.Burned.{per_hour}
+use Rattle.gensets.specs.declared.fuel.NoRate.{NoRate}
 use Rattle.gensets.specs.Leaves.{rate_told}
 use Rattle.gensets.proofs.FileCapacity.{capacity-most}
 use Rattle.sizing.proofs.Asked.{mask-wrong, power-above, value-given, mask-small, inside, one-rate}
@@ -60,21 +62,18 @@ returns-then-capacity-power c =
     let a = c.args in
     power-above (existing_only a.st.setcount a.mask && eqb (ones a.mask) 1) a.power (capacity a.st.sets a.mask) (rate_of_mask a.st a.mask a.power) (tested (goal.at.returns-then-capacity-power c).Else-not-existing_only-mask) (omega (arith, c.capacity.ensures, c.if-capacity-power.true))
 
-pub bounds-sets-at : goal.bounds-sets-at
-bounds-sets-at c =
+pub bounds-st-at : goal.bounds-st-at
+bounds-st-at c =
     let e = c.next_set-at.ensures in
-    rw e (inside c.args.st c.requires.0 c.requires.1 c.args.mask (exists (goal.at.bounds-sets-at c).Else-not-existing_only-mask).0 (exists (goal.at.bounds-sets-at c).Else-not-existing_only-mask).1)
+    rw e (inside c.args.st c.requires.0 c.requires.1 c.args.mask (exists (goal.at.bounds-st-at c).Else-not-existing_only-mask).0 (exists (goal.at.bounds-st-at c).Else-not-existing_only-mask).1)
 
 pub overflow_cast-power : goal.overflow_cast-power
 overflow_cast-power c =
     record { fits = omega (arith, capacity-most c.args.st c.requires.0 c.args.mask, c.capacity.ensures, c.if-capacity-power.false) }
 
-pub returns-in_default : goal.returns-in_default
-returns-in_default c = absurd (c.in_default.not-PerHour _ (told (goal.at.returns-in_default c).After-fuel_rate-rate))
-
 pub returns : goal.returns
 unfolding rate_of
 returns c =
     let a = c.args in
-    ap accepted (ap per_hour (sym c.in-PerHour.is ∙ told (goal.at.returns c).After-fuel_rate-rate))
+    ap result_of (c.or.ensures ∙ ap (λ (r : Result ℕ NoRate). result_or r (Err (OverLimit 0))) (told (goal.at.returns c).After-fuel_rate-rate))
     ∙ value-given (existing_only a.st.setcount a.mask && eqb (ones a.mask) 1) a.power (capacity a.st.sets a.mask) (rate_of_mask a.st a.mask a.power) (tested (goal.at.returns c).Else-not-existing_only-mask) (allowed (goal.at.returns c).Else-capacity-power)

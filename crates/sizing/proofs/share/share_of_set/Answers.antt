@@ -1,17 +1,20 @@
 -- `sizing::share::share_of_set` meets its contract. Assumes nothing.
 use Prim.Native.Nat.{◌-◌, ◌<◌}
-use mathlib.Core.Path.{◌∙◌}
+use mathlib.Core.Path.{◌≡◌, ◌∙◌}
+use mathlib.Core.Logic.{◌⊎◌, inl, inr}
 use native.Mathlib.Omega.{arith}
 use Rattle.rules.proofs.StationFacts.{right_of}
+use Rattle.rules.specs.Sizing.{share_of_set}
 use Rattle.sizing.proofs.Asked.{no-set-zero, no-set-beyond, set-share, watts-shared}
 use borrow.Author.Rules.{rules}
 use Rattle.sizing.proofs.share.share_of_set.Goals as goal
 
 pub returns-then-set-eq0 : goal.returns-then-set-eq0
-returns-then-set-eq0 c = let a = c.args in no-set-zero a.st a.mask a.power a.set (search rules)
-
-pub returns-then-st-set : goal.returns-then-st-set
-returns-then-st-set c = let a = c.args in no-set-beyond a.st a.mask a.power a.set (search rules)
+returns-then-set-eq0 c = go c.then-set-eq0.either
+  where
+    go : (c.args.set ≡ 0) ⊎ ((c.args.set ≡ 0 → ⊥) × (c.args.st.setcount < c.args.set)) → 0 ≡ share_of_set c.args.st c.args.mask c.args.power c.args.set
+    go (inl e) = no-set-zero c.args.st c.args.mask c.args.power c.args.set e
+    go (inr (n, l)) = no-set-beyond c.args.st c.args.mask c.args.power c.args.set l
 
 pub offset_bounds-watts-at : goal.offset_bounds-watts-at
 offset_bounds-watts-at c = let n : c.args.set - 1 < 8 = omega (arith, (right_of c.args.st c.requires.0).setcount.1) in search rules
