@@ -10,9 +10,8 @@ use sheet::numbers::{CellFault, time};
 pub fn seconds_asked(bytes: &[u8]) -> Result<u64, Refusal>
     ensures { result_of result ≡ seconds_asked bytes.now }
 {
-    let cell = time(MOST_SECONDS, bytes);
-    match cell {
-        Ok(seconds) => Ok(seconds as u64),
+    match time(MOST_SECONDS, bytes) {
+        Ok(seconds) => Ok(u64::from(seconds)),
         Err(CellFault::Malformed) => Err(Refusal::Malformed(0)),
         Err(CellFault::OverLimit) => Err(Refusal::RunEnded),
     }

@@ -21,11 +21,11 @@ use Rattle.held_inputs.specs.declared.fill.Filled.{Filled}
 use Rattle.rows_in_force.specs.declared.in_force.Reached.{Reached}
 use Rattle.sheet_stages.specs.ToCome.{RowsRead}
 use Rattle.sample_rows.specs.Streamed.{yet_to_come}
-use Rattle.rows_in_force.specs.Held.{rows_ahead, reader_at, is_refusal, held_from, latest, AtSecond, ReachedRight}
+use Rattle.rows_in_force.specs.Held.{rows_ahead, reader_at, is_refusal, held_from, latest, AtSecond, ReachedRight, is_unread}
 use Rattle.input_source.specs.Source.{source_rows, source_refused}
 use Rattle.held_inputs.specs.Filling.{inputs_in, HeldOn, places_of, KeptFrom, FilledRight, Filling}
 use Rattle.sample_rows.proofs.LineLaws.{drop-least}
-use Rattle.rows_in_force.proofs.HeldLaws.{latest-none, latest-of, held_next}
+use Rattle.rows_in_force.proofs.HeldLaws.{latest-none, latest-of, held_next, unread-is}
 use Rattle.input_source.proofs.EndLaws.{nothing_left, for-good, no-refusal, refused-unread}
 
 -- ---- the slices
@@ -166,7 +166,7 @@ module _ (s : InputSource) (second : ℕ) (chunk : List ℕ) (at : ℕ) (loads�
       kept_as m = record { reader = m; now = q.now; ahead = q.ahead }
 
       -- no further line ends in the chunk, so that its last bytes are kept
-      pub filled-short : (m : SampleReader) → ((rest : List ℕ) → yet_to_come (reader_at q.begun line) (drop q.next chunk ++ rest) ≡ yet_to_come m rest) → q.told ≡ false → source_refused s ≡ false → r.seconds < places
+      pub filled-short : (m : SampleReader) → ((rest : List ℕ) → yet_to_come (reader_at q.begun line) (drop q.next chunk ++ rest) ≡ yet_to_come m rest) → is_unread q.ahead ≡ true → source_refused s ≡ false → r.seconds < places
           → FilledRight s second chunk at loads₀ solars₀ sheddables₀ (record { source = record { reader = m; now = q.now; ahead = q.ahead }; next = length chunk; seconds = r.seconds }) loads solars sheddables
       filled-short m keeps u live h = record {
         inputs = λ rest. subst (λ (a : RowsRead). HeldOn s.now (before rest) second (record { source = kept_as m; next = length chunk; seconds = r.seconds }) a loads solars sheddables) (sym (kept_on rest)) (held rest);
@@ -174,7 +174,7 @@ module _ (s : InputSource) (second : ℕ) (chunk : List ℕ) (at : ℕ) (loads�
         onward = omega arith;
         most = g.most;
         short = λ k. refl;
-        waits = λ k e. right.unread u;
+        waits = λ k e. unread-is q.ahead u;
         all = λ e f. never (sym (right.wanted u) ∙ g.ended ∙ e);
         before = seconds-before live;
         refused = λ rest dead. all_told rest dead (stays-refused (kept_as m) (length chunk) rest (ap (λ (a : RowsRead). a.verdict) (kept_on rest) ∙ (held rest).verdict) dead) (dec_lt 0 r.seconds);
@@ -208,7 +208,7 @@ module _ (s : InputSource) (second : ℕ) (chunk : List ℕ) (at : ℕ) (loads�
               go up (no k) = omega (arith, g.most, k, up)
 
       -- one second more
-      pub filling-more : q.told ≡ true → r.seconds < places
+      pub filling-more : is_unread q.ahead ≡ false → r.seconds < places
           → Filling s second chunk at loads₀ solars₀ sheddables₀ (record { source = after; next = q.next; seconds = r.seconds + 1 }) (set loads r.seconds q.now.load) (set solars r.seconds q.now.solar) (set sheddables r.seconds q.now.sheddable)
       filling-more u h = record {
         inputs = λ rest. record {

@@ -31,7 +31,7 @@ use Rattle.sample_rows.proofs.UsualNext.{usual-on}
 
 -- a second before the next row's is reached with what is known
 reached-before : (b : Begun) (line : List ℕ) (now x : Sample) (t : ℕ) (chunk : List ℕ) (next : ℕ) → t < x.at → next ≤ length chunk
-    → ReachedRight b line now (Ahead.Next x) t chunk next (record { begun = b; now = now; ahead = Ahead.Next x; next = next; told = true })
+    → ReachedRight b line now (Ahead.Next x) t chunk next (record { begun = b; now = now; ahead = Ahead.Next x; next = next })
 reached-before b line now x t chunk next h w = record {
   rows = λ rest. let others = (yet_to_come (reader_at b line) (drop next chunk ++ rest)).rows in record {
     verdict = refl;
@@ -41,9 +41,8 @@ reached-before b line now x t chunk next h w = record {
   };
   within = w;
   onward = omega arith;
-  further = λ u. never (sym u);
-  wanted = λ u. never (sym u);
-  unread = λ u. never (sym u);
+  further = λ u. never u;
+  wanted = λ u. never u;
   ended = refl;
   refusal = refl;
 }
@@ -106,7 +105,7 @@ module _ (t : FillState) (second places : ℕ) (chunk loads₁ solars₁ sheddab
         let f' = g.filling s at loads₀ solars₀ sheddables₀ line e f in
         let j : i < places_of loads₀ solars₀ sheddables₀ = omega arith in
         filling-more s second chunk at loads₀ solars₀ sheddables₀ (filled_at (fill_state_at columns lines now x next i) line) loads solars sheddables f' b line refl
-        (record { begun = b; now = now; ahead = Ahead.Next x; next = next; told = true }) (reached-before b line now x (second + i) chunk next h f'.within) refl j;
+        (record { begun = b; now = now; ahead = Ahead.Next x; next = next }) (reached-before b line now x (second + i) chunk next h f'.within) refl j;
     onward = omega (arith, g.onward);
     same_loads = length-set loads i now.load ∙ g.same_loads;
     same_solars = length-set solars i now.solar ∙ g.same_solars;

@@ -23,17 +23,13 @@ pub struct Filled {
 fn fill_begun(source: InputSource, next: usize) -> FillState
     ensures { result ≡ fill_begun source next }
 {
-    let reader = source.reader;
-    let stage = reader.stage;
-    let now = source.now;
-    let ahead = source.ahead;
     FillState {
         begun: Begun {
-            stage,
-            len: reader.len,
+            stage: source.reader.stage,
+            len: source.reader.len,
         },
-        now,
-        ahead,
+        now: source.now,
+        ahead: source.ahead,
         next,
         seconds: 0,
     }
@@ -43,11 +39,10 @@ fn fill_begun(source: InputSource, next: usize) -> FillState
 fn reader_at(begun: Begun, line: [u8; 512]) -> SampleReader
     ensures { result ≡ reader_at begun line }
 {
-    let stage = begun.stage;
     SampleReader {
         line,
         len: begun.len,
-        stage,
+        stage: begun.stage,
     }
 }
 
@@ -55,12 +50,12 @@ fn reader_at(begun: Begun, line: [u8; 512]) -> SampleReader
 fn filled_at(told: FillState, line: [u8; 512]) -> Filled
     ensures { result ≡ filled_at told line }
 {
-    let begun = told.begun;
-    let now = told.now;
-    let ahead = told.ahead;
-    let reader = reader_at(begun, line);
     Filled {
-        source: InputSource { reader, now, ahead },
+        source: InputSource {
+            reader: reader_at(told.begun, line),
+            now: told.now,
+            ahead: told.ahead,
+        },
         next: told.next,
         seconds: told.seconds,
     }
@@ -72,13 +67,12 @@ fn filled_short(reached: Reached, line: [u8; 512], seconds: usize, chunk: &[u8])
     ensures value { result ≡ filled_short reached result.source.reader seconds (length chunk.now) }
     ensures by_index { (rest : List ℕ) → yet_to_come result.source.reader rest ≡ to_come reached.begun.stage (lines_after (begun_in (reader_at reached.begun line) ++ drop reached.next chunk.now) rest) }
 {
-    let begun = reached.begun;
-    let now = reached.now;
-    let ahead = reached.ahead;
-    let next = reached.next;
-    let reader = kept(reader_at(begun, line), &chunk[next..]);
     Filled {
-        source: InputSource { reader, now, ahead },
+        source: InputSource {
+            reader: kept(reader_at(reached.begun, line), &chunk[reached.next..]),
+            now: reached.now,
+            ahead: reached.ahead,
+        },
         next: chunk.len(),
         seconds,
     }
@@ -96,16 +90,13 @@ fn second_told(
     ensures value { result ≡ told_at reached (i + 1) }
     ensures loads_after { (loads.new ≡ set loads.old i reached.now.load) × (solars.new ≡ set solars.old i reached.now.solar) × (sheddables.new ≡ set sheddables.old i reached.now.sheddable) }
 {
-    let begun = reached.begun;
-    let now = reached.now;
-    let ahead = reached.ahead;
-    loads[i] = now.load;
-    solars[i] = now.solar;
-    sheddables[i] = now.sheddable;
+    loads[i] = reached.now.load;
+    solars[i] = reached.now.solar;
+    sheddables[i] = reached.now.sheddable;
     FillState {
-        begun,
-        now,
-        ahead,
+        begun: reached.begun,
+        now: reached.now,
+        ahead: reached.ahead,
         next: reached.next,
         seconds: i + 1,
     }
@@ -135,7 +126,7 @@ fn fill_seconds(
             return filled_at(usual, line);
         }
         let reached = reach(usual, &line, first + i, chunk);
-        if !reached.told {
+        if reached.ahead.is_unread() {
             return filled_short(reached, line, i, chunk);
         }
         told = second_told(reached, i, loads, solars, sheddables);

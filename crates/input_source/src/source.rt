@@ -4,8 +4,8 @@ ghost use Rattle.rules.specs.SampleFile.{before_all};
 ghost use Rattle.sheet_stages.specs.ToCome.{file_rows};
 ghost use Rattle.input_source.specs.Source.{source_rows, source_ended, source_refused, ahead_at_end, EndedRight};
 
-use rules::answers::Refusal;
 use rows_in_force::in_force::Ahead;
+use rules::answers::Refusal;
 use rules::samples::Sample;
 use sample_rows::reader::{SampleReader, end, reader};
 use sheet_stages::stage::line_refused;
@@ -36,19 +36,14 @@ pub fn inputs() -> InputSource
 }
 
 // Whether the file was refused and no row of it is left, so that it is not the one that was checked.
+#[tactic(auto, unfolding(crate::specs::Source::source_refused))]
 pub fn source_refused(source: InputSource) -> bool
     ensures { result ≡ source_refused source }
 {
-    let reader = source.reader;
-    let stage = reader.stage;
-    let ahead = source.ahead;
-    match ahead {
-        Ahead::Unread => line_refused(stage),
-        Ahead::Next(_) => false,
-        Ahead::LastTwo(_, _) => false,
-        Ahead::Last(_) => false,
-        Ahead::Ended => false,
+    match source.ahead {
+        Ahead::Unread => line_refused(source.reader.stage),
         Ahead::Refused(_) => true,
+        Ahead::Next(_) | Ahead::LastTwo(_, _) | Ahead::Last(_) | Ahead::Ended => false,
     }
 }
 
@@ -56,15 +51,7 @@ pub fn source_refused(source: InputSource) -> bool
 pub fn has_ended(source: InputSource) -> bool
     ensures { result ≡ source_ended source }
 {
-    let ahead = source.ahead;
-    match ahead {
-        Ahead::Unread => false,
-        Ahead::Next(_) => false,
-        Ahead::LastTwo(_, _) => true,
-        Ahead::Last(_) => true,
-        Ahead::Ended => true,
-        Ahead::Refused(_) => true,
-    }
+    !matches!(source.ahead, Ahead::Unread | Ahead::Next(_))
 }
 
 // What is ahead at the end of the file, where the reader's last line gave this.
@@ -82,10 +69,7 @@ fn ahead_at_end(ahead: Ahead, ending: Result<Option<Sample>, Refusal>) -> Ahead
             Ok(None) => Ahead::Last(row),
             Err(refusal) => Ahead::Refused(refusal),
         },
-        Ahead::LastTwo(_, _) => ahead,
-        Ahead::Last(_) => ahead,
-        Ahead::Ended => ahead,
-        Ahead::Refused(_) => ahead,
+        Ahead::LastTwo(_, _) | Ahead::Last(_) | Ahead::Ended | Ahead::Refused(_) => ahead,
     }
 }
 
@@ -94,11 +78,9 @@ pub fn end_inputs(source: InputSource) -> InputSource
     ensures { EndedRight source result }
 {
     let reader = source.reader;
-    let now = source.now;
-    let ahead = source.ahead;
     InputSource {
         reader,
-        now,
-        ahead: ahead_at_end(ahead, end(reader)),
+        now: source.now,
+        ahead: ahead_at_end(source.ahead, end(reader)),
     }
 }

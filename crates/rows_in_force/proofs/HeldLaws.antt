@@ -20,7 +20,7 @@ use Rattle.rows_in_force.specs.declared.in_force.InForce.{InForce}
 use Rattle.rows_in_force.specs.declared.in_force.Begun.{Begun}
 use Rattle.sheet_stages.specs.ToCome.{RowsRead, row_first, all_read}
 use Rattle.sample_rows.specs.Streamed.{yet_to_come, NextRight}
-use Rattle.rows_in_force.specs.Held.{rows_ahead, is_ended, is_refusal, held_from, latest, Onward, Tellable, last_comes_in, comes_in, reader_at, ReachedRight}
+use Rattle.rows_in_force.specs.Held.{rows_ahead, is_ended, is_refusal, held_from, latest, Onward, Tellable, last_comes_in, comes_in, reader_at, ReachedRight, is_unread}
 use Rattle.sample_rows.proofs.LineLaws.{drop-least}
 
 -- ---- rows that are held
@@ -79,13 +79,13 @@ onward_then {now₀} {rows₀ = rows₀} p q = record {
 pub record CameIn (now : Sample) (before : RowsRead) (t : ℕ) (a : RowsRead) (k : InForce) : Type 0 where
   pub verdict : (rows_ahead k.ahead a).verdict ≡ before.verdict
   pub onward : Onward now before.rows t k.now (rows_ahead k.ahead a).rows
-  pub force : k.unread ≡ false → holding k.now (rows_ahead k.ahead a).rows t ≡ k.now
-  pub tells : k.unread ≡ false → is_refusal k.ahead ≡ false → Tellable (rows_ahead k.ahead a) t
+  pub force : is_unread k.ahead ≡ false → holding k.now (rows_ahead k.ahead a).rows t ≡ k.now
+  pub tells : is_unread k.ahead ≡ false → is_refusal k.ahead ≡ false → Tellable (rows_ahead k.ahead a) t
 
 module _ (t : ℕ) (a : RowsRead) where
-  stays : (now : Sample) (ahead : Ahead) (unread : Bool) → (unread ≡ false → holding now (rows_ahead ahead a).rows t ≡ now) → (unread ≡ false → is_refusal ahead ≡ false → Tellable (rows_ahead ahead a) t)
-      → CameIn now (rows_ahead ahead a) t a (record { now = now; ahead = ahead; unread = unread })
-  stays now ahead unread f g = record { verdict = refl; onward = onward-same now (rows_ahead ahead a).rows t; force = f; tells = g }
+  stays : (now : Sample) (ahead : Ahead) → (is_unread ahead ≡ false → holding now (rows_ahead ahead a).rows t ≡ now) → (is_unread ahead ≡ false → is_refusal ahead ≡ false → Tellable (rows_ahead ahead a) t)
+      → CameIn now (rows_ahead ahead a) t a (record { now = now; ahead = ahead })
+  stays now ahead f g = record { verdict = refl; onward = onward-same now (rows_ahead ahead a).rows t; force = f; tells = g }
 
   -- no line is refused
   tellable : {P : Type 0} → true ≡ false → P
@@ -95,9 +95,9 @@ module _ (t : ℕ) (a : RowsRead) where
   last-in now x = go (leb x.at t) refl
     where
       go : (b : Bool) → leb x.at t ≡ b
-          → CameIn now (all_read (x ∷ [])) t a (if b then record { now = x; ahead = Ahead.Ended; unread = false } else record { now = now; ahead = Ahead.Last x; unread = false })
+          → CameIn now (all_read (x ∷ [])) t a (if b then record { now = x; ahead = Ahead.Ended } else record { now = now; ahead = Ahead.Last x })
       go true e = record { verdict = refl; onward = onward-in now x [] t (leb-true x.at t e); force = λ u. none-to-come x t; tells = λ u w. tellable }
-      go false e = stays now (Ahead.Last x) false (λ u. before-next now x [] t e) (λ u w. tellable)
+      go false e = stays now (Ahead.Last x) (λ u. before-next now x [] t e) (λ u w. tellable)
 
   then-in : {now x : Sample} {before : RowsRead} {k : InForce} → x.at ≤ t → CameIn x before t a k → CameIn now (row_first (Some x) before) t a k
   then-in {now} {x} {before} h c = record { verdict = c.verdict; onward = onward_then (onward-in now x before.rows t h) c.onward; force = c.force; tells = c.tells }
@@ -106,25 +106,25 @@ module _ (t : ℕ) (a : RowsRead) where
   next-in now x = go (leb x.at t) refl
     where
       go : (b : Bool) → leb x.at t ≡ b
-          → CameIn now (row_first (Some x) a) t a (if b then record { now = x; ahead = Ahead.Unread; unread = true } else record { now = now; ahead = Ahead.Next x; unread = false })
-      go true e = then-in (leb-true x.at t e) (stays x Ahead.Unread true (λ u. never (sym u)) (λ u w. never (sym u)))
-      go false e = stays now (Ahead.Next x) false (λ u. before-next now x a.rows t e) (λ u w r. let h = leb-false x.at t e in let g = latest-of x a.rows in omega (arith, h, g))
+          → CameIn now (row_first (Some x) a) t a (if b then record { now = x; ahead = Ahead.Unread } else record { now = now; ahead = Ahead.Next x })
+      go true e = then-in (leb-true x.at t e) (stays x Ahead.Unread (λ u. never (sym u)) (λ u w. never (sym u)))
+      go false e = stays now (Ahead.Next x) (λ u. before-next now x a.rows t e) (λ u w r. let h = leb-false x.at t e in let g = latest-of x a.rows in omega (arith, h, g))
 
   two_in : (now x y : Sample) → CameIn now (all_read (x ∷ y ∷ [])) t a (comes_in now (Ahead.LastTwo x y) t)
   two_in now x y = go (leb x.at t) refl
     where
       go : (b : Bool) → leb x.at t ≡ b
-          → CameIn now (all_read (x ∷ y ∷ [])) t a (if b then last_comes_in x y t else record { now = now; ahead = Ahead.LastTwo x y; unread = false })
+          → CameIn now (all_read (x ∷ y ∷ [])) t a (if b then last_comes_in x y t else record { now = now; ahead = Ahead.LastTwo x y })
       go true e = then-in (leb-true x.at t e) (last-in x y)
-      go false e = stays now (Ahead.LastTwo x y) false (λ u. before-next now x (y ∷ []) t e) (λ u w. tellable)
+      go false e = stays now (Ahead.LastTwo x y) (λ u. before-next now x (y ∷ []) t e) (λ u w. tellable)
 
 pub comes-in-right : (t : ℕ) (a : RowsRead) (now : Sample) (ahead : Ahead) → CameIn now (rows_ahead ahead a) t a (comes_in now ahead t)
-comes-in-right t a now Ahead.Unread = stays t a now Ahead.Unread true (λ u. never (sym u)) (λ u w. never (sym u))
+comes-in-right t a now Ahead.Unread = stays t a now Ahead.Unread (λ u. never (sym u)) (λ u w. never (sym u))
 comes-in-right t a now (Ahead.Next x) = next-in t a now x
 comes-in-right t a now (Ahead.LastTwo x y) = two_in t a now x y
 comes-in-right t a now (Ahead.Last x) = last-in t a now x
-comes-in-right t a now Ahead.Ended = stays t a now Ahead.Ended false (λ u. none-to-come now t) (λ u w. tellable t a)
-comes-in-right t a now (Ahead.Refused r) = stays t a now (Ahead.Refused r) false (λ u. none-to-come now t) (λ u w. never (sym w))
+comes-in-right t a now Ahead.Ended = stays t a now Ahead.Ended (λ u. none-to-come now t) (λ u w. tellable t a)
+comes-in-right t a now (Ahead.Refused r) = stays t a now (Ahead.Refused r) (λ u. none-to-come now t) (λ u w. never (sym w))
 
 abbrev pick : Bool → InForce → InForce → InForce
 pick b x y = if b then x else y
@@ -134,19 +134,19 @@ pub comes-in-ended : (now : Sample) (ahead : Ahead) (t : ℕ) → is_ended (come
 comes-in-ended now Ahead.Unread t = refl
 comes-in-ended now (Ahead.Next x) t = go (leb x.at t)
   where
-    go : (b : Bool) → is_ended (pick b (record { now = x; ahead = Ahead.Unread; unread = true }) (record { now = now; ahead = Ahead.Next x; unread = false })).ahead ≡ false
+    go : (b : Bool) → is_ended (pick b (record { now = x; ahead = Ahead.Unread }) (record { now = now; ahead = Ahead.Next x })).ahead ≡ false
     go true = refl
     go false = refl
 comes-in-ended now (Ahead.LastTwo x y) t = go (leb x.at t) (leb y.at t)
   where
     go : (b d : Bool)
-        → is_ended (pick b (pick d (record { now = y; ahead = Ahead.Ended; unread = false }) (record { now = x; ahead = Ahead.Last y; unread = false })) (record { now = now; ahead = Ahead.LastTwo x y; unread = false })).ahead ≡ true
+        → is_ended (pick b (pick d (record { now = y; ahead = Ahead.Ended }) (record { now = x; ahead = Ahead.Last y })) (record { now = now; ahead = Ahead.LastTwo x y })).ahead ≡ true
     go true true = refl
     go true false = refl
     go false d = refl
 comes-in-ended now (Ahead.Last x) t = go (leb x.at t)
   where
-    go : (b : Bool) → is_ended (pick b (record { now = x; ahead = Ahead.Ended; unread = false }) (record { now = now; ahead = Ahead.Last x; unread = false })).ahead ≡ true
+    go : (b : Bool) → is_ended (pick b (record { now = x; ahead = Ahead.Ended }) (record { now = now; ahead = Ahead.Last x })).ahead ≡ true
     go true = refl
     go false = refl
 comes-in-ended now Ahead.Ended t = refl
@@ -156,48 +156,31 @@ pub comes-in-refusal : (now : Sample) (ahead : Ahead) (t : ℕ) → is_refusal (
 comes-in-refusal now Ahead.Unread t = refl
 comes-in-refusal now (Ahead.Next x) t = go (leb x.at t)
   where
-    go : (b : Bool) → is_refusal (pick b (record { now = x; ahead = Ahead.Unread; unread = true }) (record { now = now; ahead = Ahead.Next x; unread = false })).ahead ≡ false
+    go : (b : Bool) → is_refusal (pick b (record { now = x; ahead = Ahead.Unread }) (record { now = now; ahead = Ahead.Next x })).ahead ≡ false
     go true = refl
     go false = refl
 comes-in-refusal now (Ahead.LastTwo x y) t = go (leb x.at t) (leb y.at t)
   where
     go : (b d : Bool)
-        → is_refusal (pick b (pick d (record { now = y; ahead = Ahead.Ended; unread = false }) (record { now = x; ahead = Ahead.Last y; unread = false })) (record { now = now; ahead = Ahead.LastTwo x y; unread = false })).ahead ≡ false
+        → is_refusal (pick b (pick d (record { now = y; ahead = Ahead.Ended }) (record { now = x; ahead = Ahead.Last y })) (record { now = now; ahead = Ahead.LastTwo x y })).ahead ≡ false
     go true true = refl
     go true false = refl
     go false d = refl
 comes-in-refusal now (Ahead.Last x) t = go (leb x.at t)
   where
-    go : (b : Bool) → is_refusal (pick b (record { now = x; ahead = Ahead.Ended; unread = false }) (record { now = now; ahead = Ahead.Last x; unread = false })).ahead ≡ false
+    go : (b : Bool) → is_refusal (pick b (record { now = x; ahead = Ahead.Ended }) (record { now = now; ahead = Ahead.Last x })).ahead ≡ false
     go true = refl
     go false = refl
 comes-in-refusal now Ahead.Ended t = refl
 comes-in-refusal now (Ahead.Refused r) t = refl
 
-pub comes-in-unread : (now : Sample) (ahead : Ahead) (t : ℕ) → (comes_in now ahead t).unread ≡ true → (comes_in now ahead t).ahead ≡ Ahead.Unread
-comes-in-unread now Ahead.Unread t h = refl
-comes-in-unread now (Ahead.Next x) t h = go (leb x.at t) h
-  where
-    go : (b : Bool) → (pick b (record { now = x; ahead = Ahead.Unread; unread = true }) (record { now = now; ahead = Ahead.Next x; unread = false })).unread ≡ true
-        → (pick b (record { now = x; ahead = Ahead.Unread; unread = true }) (record { now = now; ahead = Ahead.Next x; unread = false })).ahead ≡ Ahead.Unread
-    go true h = refl
-    go false h = never h
-comes-in-unread now (Ahead.LastTwo x y) t h = go (leb x.at t) (leb y.at t) h
-  where
-    go : (b d : Bool)
-        → (pick b (pick d (record { now = y; ahead = Ahead.Ended; unread = false }) (record { now = x; ahead = Ahead.Last y; unread = false })) (record { now = now; ahead = Ahead.LastTwo x y; unread = false })).unread ≡ true
-        → (pick b (pick d (record { now = y; ahead = Ahead.Ended; unread = false }) (record { now = x; ahead = Ahead.Last y; unread = false })) (record { now = now; ahead = Ahead.LastTwo x y; unread = false })).ahead ≡ Ahead.Unread
-    go true true h = never h
-    go true false h = never h
-    go false d h = never h
-comes-in-unread now (Ahead.Last x) t h = go (leb x.at t) h
-  where
-    go : (b : Bool) → (pick b (record { now = x; ahead = Ahead.Ended; unread = false }) (record { now = now; ahead = Ahead.Last x; unread = false })).unread ≡ true
-        → (pick b (record { now = x; ahead = Ahead.Ended; unread = false }) (record { now = now; ahead = Ahead.Last x; unread = false })).ahead ≡ Ahead.Unread
-    go true h = never h
-    go false h = never h
-comes-in-unread now Ahead.Ended t h = never h
-comes-in-unread now (Ahead.Refused r) t h = never h
+pub unread-is : (ahead : Ahead) → is_unread ahead ≡ true → ahead ≡ Ahead.Unread
+unread-is Ahead.Unread h = refl
+unread-is (Ahead.Next _) h = never h
+unread-is (Ahead.LastTwo _ _) h = never h
+unread-is (Ahead.Last _) h = never h
+unread-is Ahead.Ended h = never h
+unread-is (Ahead.Refused _) h = never h
 
 -- ---- with rows of a chunk
 
@@ -209,7 +192,6 @@ module _ (b : Begun) (line : List ℕ) (now : Sample) (ahead : Ahead) (t : ℕ) 
     pub onward : min at (length chunk) ≤ next
     pub ended : is_ended k.ahead ≡ is_ended ahead
     pub refusal : is_refusal k.ahead ≡ is_refusal ahead
-    pub unread : k.unread ≡ true → k.ahead ≡ Ahead.Unread
 
   pub reaching-start : (next : ℕ) (k : InForce) → next ≡ min at (length chunk) → k ≡ comes_in now ahead t → Reaching b next k
   reaching-start next k e is = subst (λ (k : InForce). Reaching b next k) (sym is) (record {
@@ -218,11 +200,10 @@ module _ (b : Begun) (line : List ℕ) (now : Sample) (ahead : Ahead) (t : ℕ) 
     onward = omega arith;
     ended = comes-in-ended now ahead t;
     refusal = comes-in-refusal now ahead t;
-    unread = comes-in-unread now ahead t;
   })
 
   module _ (upto : Begun) (next : ℕ) (k : InForce) (g : Reaching upto next k) where
-    module _ (p : NextRow) (right : NextRight upto.stage line upto.len chunk next p) (u : k.unread ≡ true) where
+    module _ (p : NextRow) (right : NextRight upto.stage line upto.len chunk next p) (u : is_unread k.ahead ≡ true) where
       abbrev after : Begun
       after = record { stage = p.stage; len = p.len }
 
@@ -234,7 +215,7 @@ module _ (b : Begun) (line : List ℕ) (now : Sample) (ahead : Ahead) (t : ℕ) 
         handed : rows_ahead k.ahead (yet_to_come (reader_at upto line) (drop next chunk ++ rest)) ≡ row_first found left
         unfolding yet_to_come
         handed =
-            ap (λ (w : Ahead). rows_ahead w (yet_to_come (reader_at upto line) (drop next chunk ++ rest))) (g.unread u)
+            ap (λ (w : Ahead). rows_ahead w (yet_to_come (reader_at upto line) (drop next chunk ++ rest))) (unread-is k.ahead u)
             ∙ right.rows rest
             ∙ ap (λ (f : Option Sample). row_first f left) e
 
@@ -245,10 +226,10 @@ module _ (b : Begun) (line : List ℕ) (now : Sample) (ahead : Ahead) (t : ℕ) 
         same-onward = subst (λ (r : RowsRead). Onward now (rows_ahead ahead (yet_to_come (reader_at b line) (drop at chunk ++ rest))).rows t k.now r.rows) handed (g.rows rest).onward
 
       unended : is_ended ahead ≡ false
-      unended = sym g.ended ∙ ap is_ended (g.unread u)
+      unended = sym g.ended ∙ ap is_ended (unread-is k.ahead u)
 
       unrefused : is_refusal ahead ≡ false
-      unrefused = sym g.refusal ∙ ap is_refusal (g.unread u)
+      unrefused = sym g.refusal ∙ ap is_refusal (unread-is k.ahead u)
 
       pub reaching-more : (x : Sample) (k' : InForce) → p.found ≡ Some x → k' ≡ comes_in k.now (Ahead.Next x) t → Reaching after p.next k'
       reaching-more x k' e is = subst (λ (k : InForce). Reaching after p.next k) (sym is) (record {
@@ -258,31 +239,28 @@ module _ (b : Begun) (line : List ℕ) (now : Sample) (ahead : Ahead) (t : ℕ) 
         onward = let o : next < p.next = right.onward (ap is_some e) in omega (arith, g.onward);
         ended = comes-in-ended k.now (Ahead.Next x) t ∙ sym unended;
         refusal = comes-in-refusal k.now (Ahead.Next x) t ∙ sym unrefused;
-        unread = comes-in-unread k.now (Ahead.Next x) t;
       })
 
       -- the chunk has no further row
       pub not-reached : p.found ≡ None
-          → ReachedRight b line now ahead t chunk at (record { begun = after; now = k.now; ahead = Ahead.Unread; next = p.next; told = false })
+          → ReachedRight b line now ahead t chunk at (record { begun = after; now = k.now; ahead = Ahead.Unread; next = p.next })
       not-reached e = record {
-        rows = λ rest. record { verdict = same-verdict None e rest; onward = same-onward None e rest; force = λ b. never b; tells = λ b. never b };
+        rows = λ rest. record { verdict = same-verdict None e rest; onward = same-onward None e rest; force = λ b. never (sym b); tells = λ b. never (sym b) };
         within = right.within;
         onward = let o : min next (length chunk) ≤ p.next = right.ahead in omega (arith, g.onward, g.within);
         further = λ b. right.further (ap is_some e);
         wanted = λ b. unended;
-        unread = λ b. refl;
         ended = sym unended;
         refusal = sym unrefused;
       }
 
-    pub reached : k.unread ≡ false → ReachedRight b line now ahead t chunk at (record { begun = upto; now = k.now; ahead = k.ahead; next = next; told = true })
+    pub reached : is_unread k.ahead ≡ false → ReachedRight b line now ahead t chunk at (record { begun = upto; now = k.now; ahead = k.ahead; next = next })
     reached u = record {
       rows = λ rest. let c = g.rows rest in record { verdict = c.verdict; onward = c.onward; force = λ b. c.force u; tells = λ b. c.tells u };
       within = g.within;
       onward = g.onward;
-      further = λ b. never (sym b);
-      wanted = λ b. never (sym b);
-      unread = λ b. never (sym b);
+      further = λ b. never (sym u ∙ b);
+      wanted = λ b. never (sym u ∙ b);
       ended = g.ended;
       refusal = g.refusal;
     }

@@ -27,6 +27,15 @@ rows_ahead (Ahead.Last x) others = all_read (x ∷ [])
 rows_ahead Ahead.Ended others = all_read []
 rows_ahead (Ahead.Refused r) others = record { rows = []; verdict = refusal_of r }
 
+-- the next row has to be read before a second can be worked
+abbrev pub is_unread : Ahead → Bool
+is_unread Ahead.Unread = true
+is_unread (Ahead.Next x) = false
+is_unread (Ahead.LastTwo x y) = false
+is_unread (Ahead.Last x) = false
+is_unread Ahead.Ended = false
+is_unread (Ahead.Refused r) = false
+
 -- no rest of the file changes what is ahead
 abbrev pub is_ended : Ahead → Bool
 is_ended Ahead.Unread = false
@@ -72,18 +81,18 @@ Tellable r t = is_accepted r.verdict ≡ false → t < latest r.rows
 
 abbrev pub last_comes_in : Sample → Sample → ℕ → InForce
 last_comes_in now x t =
-    if leb x.at t then record { now = x; ahead = Ahead.Ended; unread = false } else record { now = now; ahead = Ahead.Last x; unread = false }
+    if leb x.at t then record { now = x; ahead = Ahead.Ended } else record { now = now; ahead = Ahead.Last x }
 
 -- of the rows that are known to be ahead
 abbrev pub comes_in : Sample → Ahead → ℕ → InForce
-comes_in now Ahead.Unread t = record { now = now; ahead = Ahead.Unread; unread = true }
+comes_in now Ahead.Unread t = record { now = now; ahead = Ahead.Unread }
 comes_in now (Ahead.Next x) t =
-    if leb x.at t then record { now = x; ahead = Ahead.Unread; unread = true } else record { now = now; ahead = Ahead.Next x; unread = false }
+    if leb x.at t then record { now = x; ahead = Ahead.Unread } else record { now = now; ahead = Ahead.Next x }
 comes_in now (Ahead.LastTwo x y) t =
-    if leb x.at t then last_comes_in x y t else record { now = now; ahead = Ahead.LastTwo x y; unread = false }
+    if leb x.at t then last_comes_in x y t else record { now = now; ahead = Ahead.LastTwo x y }
 comes_in now (Ahead.Last x) t = last_comes_in now x t
-comes_in now Ahead.Ended t = record { now = now; ahead = Ahead.Ended; unread = false }
-comes_in now (Ahead.Refused r) t = record { now = now; ahead = Ahead.Refused r; unread = false }
+comes_in now Ahead.Ended t = record { now = now; ahead = Ahead.Ended }
+comes_in now (Ahead.Refused r) t = record { now = now; ahead = Ahead.Refused r }
 
 -- the reader of a line that has begun
 abbrev pub reader_at : Begun → List ℕ → SampleReader
@@ -93,16 +102,15 @@ reader_at b line = record { line = line; len = b.len; stage = b.stage }
 pub record AtSecond (now : Sample) (before : RowsRead) (t : ℕ) (r : Reached) (after : RowsRead) : Type 0 where
   pub verdict : after.verdict ≡ before.verdict
   pub onward : Onward now before.rows t r.now after.rows
-  pub force : r.told ≡ true → holding r.now after.rows t ≡ r.now
-  pub tells : r.told ≡ true → is_refusal r.ahead ≡ false → Tellable after t
+  pub force : is_unread r.ahead ≡ false → holding r.now after.rows t ≡ r.now
+  pub tells : is_unread r.ahead ≡ false → is_refusal r.ahead ≡ false → Tellable after t
 
 -- what reaching a second owes, with a chunk from a place on
 pub record ReachedRight (b : Begun) (line : List ℕ) (now : Sample) (ahead : Ahead) (t : ℕ) (chunk : List ℕ) (at : ℕ) (r : Reached) : Type 0 where
   pub rows : (rest : List ℕ) → AtSecond now (rows_ahead ahead (yet_to_come (reader_at b line) (drop at chunk ++ rest))) t r (rows_ahead r.ahead (yet_to_come (reader_at r.begun line) (drop r.next chunk ++ rest)))
   pub within : r.next ≤ length chunk
   pub onward : min at (length chunk) ≤ r.next
-  pub further : r.told ≡ false → index_of LF (drop r.next chunk) ≡ length (drop r.next chunk)
-  pub wanted : r.told ≡ false → is_ended ahead ≡ false
-  pub unread : r.told ≡ false → r.ahead ≡ Ahead.Unread
+  pub further : is_unread r.ahead ≡ true → index_of LF (drop r.next chunk) ≡ length (drop r.next chunk)
+  pub wanted : is_unread r.ahead ≡ true → is_ended ahead ≡ false
   pub ended : is_ended r.ahead ≡ is_ended ahead
   pub refusal : is_refusal r.ahead ≡ is_refusal ahead

@@ -1,5 +1,5 @@
 -- `held_inputs::fill::fill_seconds` meets its contract: the seconds so far are told, and the others are told by what is left. Assumes nothing.
-use mathlib.Core.Path.{refl, ap, ◌∙◌}
+use mathlib.Core.Path.{refl, sym, ap, ◌∙◌}
 use native.Mathlib.Omega.{arith}
 use borrow.Author.Tests.{not-true, not-false}
 use Rattle.rows_in_force.specs.declared.in_force.FillState.{FillState}
@@ -40,24 +40,24 @@ overflow_add-first c = record { fits = omega (arith, c.requires.0, c.loop-told.i
 pub filled_short-requires : goal.filled_short-requires
 filled_short-requires c = c.reach-reached.ensures.within
 
-pub shape_of-loads-then-not-reached : goal.shape_of-loads-then-not-reached
-shape_of-loads-then-not-reached c = c.usual_seconds-usual.ensures.same_loads ∙ c.loop-told.invariant.1.kept_loads.size
+pub shape_of-loads-then-is_unread : goal.shape_of-loads-then-is_unread
+shape_of-loads-then-is_unread c = c.usual_seconds-usual.ensures.same_loads ∙ c.loop-told.invariant.1.kept_loads.size
 
-pub shape_of-solars-then-not-reached : goal.shape_of-solars-then-not-reached
-shape_of-solars-then-not-reached c = c.usual_seconds-usual.ensures.same_solars ∙ c.loop-told.invariant.1.kept_solars.size
+pub shape_of-solars-then-is_unread : goal.shape_of-solars-then-is_unread
+shape_of-solars-then-is_unread c = c.usual_seconds-usual.ensures.same_solars ∙ c.loop-told.invariant.1.kept_solars.size
 
-pub shape_of-sheddables-then-not-reached : goal.shape_of-sheddables-then-not-reached
-shape_of-sheddables-then-not-reached c = c.usual_seconds-usual.ensures.same_sheddables ∙ c.loop-told.invariant.1.kept_sheddables.size
+pub shape_of-sheddables-then-is_unread : goal.shape_of-sheddables-then-is_unread
+shape_of-sheddables-then-is_unread c = c.usual_seconds-usual.ensures.same_sheddables ∙ c.loop-told.invariant.1.kept_sheddables.size
 
-pub returns-then-not-reached : goal.returns-then-not-reached
-returns-then-not-reached c =
+pub returns-then-is_unread : goal.returns-then-is_unread
+returns-then-is_unread c =
     let a = c.args in
     let line = a.source.reader.line in
     let usual = c.usual_seconds-usual.result in
     let q = c.reach-reached.result in
     let m = c.filled_short.result.source.reader in
     let g = c.usual_seconds-usual.ensures.filling a.source a.at a.loads.now a.solars.now a.sheddables.now line c.loop-told.invariant.0 (rw c.fill_begun-told.ensures at c.loop-told.invariant.1) in
-    let told = not-true _ c.if-not-reached.true in
+    let told = sym c.is_unread.ensures ∙ c.if-is_unread.true in
     let keeps = kept_on (reader_at q.begun line) m _ (c.reach-reached.ensures.further told) c.filled_short.ensures.by_index in
     rw c.filled_short.ensures.value (filled-short a.source a.first a.chunk.now a.at a.loads.now a.solars.now a.sheddables.now (filled_at usual line) _ _ _ g usual.begun line refl q c.reach-reached.ensures m keeps told c.requires.1 (omega (arith, c.if-places-i.false, c.loop-told.invariant.0)))
 
@@ -78,7 +78,7 @@ loop-told-preserved c =
     let from = (filled_at c.fill_begun-told.result line).source in
     let g = c.usual_seconds-usual.ensures.filling from a.at a.loads.now a.solars.now a.sheddables.now line c.loop-told.invariant.0 c.loop-told.invariant.1 in
     let s = c.second_told-told.ensures in
-    (c.loop-told.invariant.0, rw (s.value, s.loads_after.0, s.loads_after.1, s.loads_after.2) (filling-more from a.first a.chunk.now a.at a.loads.now a.solars.now a.sheddables.now (filled_at usual line) _ _ _ g usual.begun line refl c.reach-reached.result c.reach-reached.ensures (not-false _ c.if-not-reached.false) (omega (arith, c.if-places-i.false, c.loop-told.invariant.0))))
+    (c.loop-told.invariant.0, rw (s.value, s.loads_after.0, s.loads_after.1, s.loads_after.2) (filling-more from a.first a.chunk.now a.at a.loads.now a.solars.now a.sheddables.now (filled_at usual line) _ _ _ g usual.begun line refl c.reach-reached.result c.reach-reached.ensures (sym c.is_unread.ensures ∙ c.if-is_unread.false) (omega (arith, c.if-places-i.false, c.loop-told.invariant.0))))
 
 pub shape_of-loads : goal.shape_of-loads
 shape_of-loads c = c.loop-told.invariant.1.kept_loads.size

@@ -8,8 +8,8 @@ use Rattle.rows_in_force.specs.Held.{comes_in}
 use Rattle.rows_in_force.proofs.HeldLaws.{Reaching}
 use Rattle.rows_in_force.proofs.in_force.reach.Given as goal
 
-abbrev pub invariant-loop-known : goal.invariant-loop-known
-invariant-loop-known l = (now : Sample) (ahead : Ahead) (at : ℕ) → l.initial.next ≡ min at (length l.chunk) → l.initial.known ≡ comes_in now ahead l.second → Reaching (record { stage = l.initial.stage; len = l.initial.len }) l.line now ahead l.second l.chunk at (record { stage = l.stage; len = l.len }) l.next l.known
+abbrev pub invariant-loop-further : goal.invariant-loop-further
+invariant-loop-further l = (now : Sample) (ahead : Ahead) (at : ℕ) → l.initial.next ≡ min at (length l.chunk) → l.initial.known ≡ comes_in now ahead l.second → Reaching l.initial.begun l.line now ahead l.second l.chunk at l.begun l.next l.known
 
-abbrev pub decreases-loop-known : goal.decreases-loop-known
-decreases-loop-known l = length l.chunk - l.next
+abbrev pub decreases-loop-further : goal.decreases-loop-further
+decreases-loop-further l = length l.chunk - l.next
