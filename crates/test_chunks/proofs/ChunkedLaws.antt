@@ -1,5 +1,5 @@
 -- The chunks of a file, one after the other, and a row that is sought in them. Assumes nothing.
-use Rattle.std.specs.Prelude.{Ok, Err, Some, None, Result, Option}
+use Rattle.std.specs.Prelude.{Some}
 use Prim.Native.Nat.{ℕ, zero, suc, ◌+◌, ◌-◌, ◌≤◌, ◌<◌, min}
 use mathlib.Core.Path.{◌≡◌, refl, sym, ap, ◌∙◌}
 use mathlib.Core.List.{List, [], ◌∷◌, ◌++◌}
@@ -7,12 +7,11 @@ use native.Mathlib.Omega.{arith}
 use lib.ListN.{length, take, drop, take-append-drop, length-take, length-drop}
 use lib.Seq.{drop-drop}
 use Rattle.rules.specs.declared.samples.Sample.{Sample}
-use Rattle.rules.specs.declared.answers.Refusal.{Refusal}
 use Rattle.sample_rows.specs.declared.reader.SampleReader.{SampleReader}
 use Rattle.sample_rows.specs.declared.reader.Pulled.{Pulled}
 use Rattle.samples.specs.declared.check.SampleCheck.{SampleCheck}
-use Rattle.sheet_stages.specs.ToCome.{RowsRead, row_first, all_read}
-use Rattle.sample_rows.specs.Streamed.{yet_to_come, PulledRight, ending_of}
+use Rattle.sheet_stages.specs.ToCome.{RowsRead, row_first}
+use Rattle.sample_rows.specs.Streamed.{yet_to_come, PulledRight}
 use Rattle.samples.specs.Streamed.{checked_with}
 use Rattle.samples.proofs.CheckLaws.{pull-ahead}
 use Rattle.test_chunks.specs.declared.Sought.{Sought}
@@ -104,23 +103,3 @@ module _ (x : Sample) where
   unfolding row_at
   row_before zero h rows = absurd (h refl)
   row_before (suc before) h rows = let e : before ≡ suc before - 1 = omega arith in ap (λ (n : ℕ). row_at n rows.rows) e
-
--- ---- the ends of the file
-
-module _ (m : SampleReader) (s : Sought) (e : Result (Option Sample) Refusal) (h : ending_of e ≡ yet_to_come m []) where
-  ending : (f : Result (Option Sample) Refusal) → e ≡ f → sought_in s (ending_of f) ≡ sought_in s (yet_to_come m [])
-  ending f is = ap (λ (g : Result (Option Sample) Refusal). sought_in s (ending_of g)) (sym is) ∙ ap (sought_in s) h
-
-  pub last_row : (x : Sample) → e ≡ (Ok (Some x)) → (t : Sought) → ((rows : RowsRead) → sought_in s (row_first (Some x) rows) ≡ sought_in t rows)
-      → sought_in t (all_read []) ≡ sought_in s (yet_to_come m [])
-  last_row x is t step = sym (step (all_read [])) ∙ ending (Ok (Some x)) is
-
-  pub no_row : e ≡ Ok None → sought_in s (all_read []) ≡ sought_in s (yet_to_come m [])
-  no_row is = ending (Ok None) is
-
-  pub refused_end : (r : Refusal) → e ≡ Err r → sought_in s (all_read []) ≡ sought_in s (yet_to_come m [])
-  refused_end r is = no_rows s ∙ ending (Err r) is
-    where
-      no_rows : (s : Sought) → sought_in s (all_read []) ≡ sought_in s (ending_of (Err r))
-      no_rows (Sought.After before) = refl
-      no_rows (Sought.Came x) = refl

@@ -154,11 +154,7 @@ fn row_that_came(sought: Sought) -> Option<Sample>
 fn row_at_end(reader: SampleReader, sought: Sought) -> Option<Sample>
     ensures { result ≡ sought_in sought (yet_to_come reader []) }
 {
-    match end(reader) {
-        Ok(Some(row)) => row_that_came(passed(sought, Some(row))),
-        Ok(None) => row_that_came(sought),
-        Err(_) => row_that_came(sought),
-    }
+    row_that_came(passed(sought, end(reader).unwrap_or(None)))
 }
 
 // All rows of the file, out of one chunk after the other; a chunk is left as soon as its end is reached, so that every pull goes ahead.
@@ -172,9 +168,8 @@ fn row_in_chunks(file: &[u8], size: u64, row: u64) -> Option<Sample>
     while start < file.len() {
         let end = chunk_end(file, start, size);
         let pulled = pull(reading, &file[start..end], next);
-        let found = pulled.found;
         reading = pulled.reader;
-        sought = passed(sought, found);
+        sought = passed(sought, pulled.found);
         next = pulled.next;
         if next == end - start {
             start = end;

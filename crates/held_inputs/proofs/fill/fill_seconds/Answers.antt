@@ -1,7 +1,6 @@
 -- `held_inputs::fill::fill_seconds` meets its contract: the seconds so far are told, and the others are told by what is left. Assumes nothing.
 use mathlib.Core.Path.{refl, sym, ap, ◌∙◌}
 use native.Mathlib.Omega.{arith}
-use borrow.Author.Tests.{not-true, not-false}
 use Rattle.rows_in_force.specs.declared.in_force.FillState.{FillState}
 use Rattle.rows_in_force.specs.Held.{reader_at}
 use Rattle.held_inputs.specs.Filling.{filled_at}

@@ -3,4 +3,4 @@
 use Rattle.held_inputs.proofs.fill.filled_at.Goals as goal
 
 pub returns : goal.returns
-returns c = rw c.reader_at-reader.ensures
+returns c = rw c.reader_at.ensures

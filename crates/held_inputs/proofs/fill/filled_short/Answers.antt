@@ -6,4 +6,4 @@ use Rattle.held_inputs.proofs.fill.filled_short.Goals as goal
 pub returns : goal.returns
 returns c =
     let a = c.args in
-    record { value = refl; by_index = λ rest. rw (c.reader_at.ensures, take_rest a.chunk.now a.reached.next) at (c.kept-reader.ensures rest) }
+    record { value = refl; by_index = λ rest. rw (c.reader_at.ensures, take_rest a.chunk.now a.reached.next) at (c.kept.ensures rest) }

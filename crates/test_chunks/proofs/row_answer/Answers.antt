@@ -1,9 +1,0 @@
--- `test_chunks::row_answer` meets its contract. Assumes nothing.
-
-use Rattle.test_chunks.proofs.row_answer.Goals as goal
-
-pub returns-in-Some : goal.returns-in-Some
-returns-in-Some c = rw c.in-Some.is
-
-pub returns-in-None : goal.returns-in-None
-returns-in-None c = rw c.in-None.is
