@@ -1,5 +1,4 @@
 // What the rows' bytes come to: how many there are, and Fletcher's two sums over them, which are the same however the bytes are parted.
-use words::arithmetic::byte_u64;
 
 // The largest prime below 65,536, as Adler takes it.
 const MODULUS: u64 = 65_521;
@@ -35,14 +34,12 @@ pub(crate) fn with_bytes(before: RowBytes, buffer: &[u8], size: usize) -> RowByt
     }
     let mut low = before.low % MODULUS;
     let mut high = before.high % MODULUS;
-    let mut i: usize = 0;
-    while i < size {
-        low += byte_u64(buffer[i]);
+    for byte in &buffer[..size] {
+        low += *byte as u64;
         high += low;
-        i += 1;
     }
     RowBytes {
-        count: std::num::wrapping_add_u64(before.count, size as u64),
+        count: before.count.wrapping_add(size as u64),
         low: low % MODULUS,
         high: high % MODULUS,
     }

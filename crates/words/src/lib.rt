@@ -1,6 +1,5 @@
 #![tactic(auto)]
-// Small sums, bytes, masks and answers in code; nothing of the field.
-pub mod arithmetic;
+// Bytes, masks and answers in code; nothing of the field.
 pub mod little;
 pub mod masks;
 pub mod refusals;
