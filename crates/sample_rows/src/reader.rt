@@ -1,5 +1,5 @@
 // The rows of a sample file that comes in chunks of any length: the reader goes in by value and comes back.
-ghost use Rattle.std.specs.Prelude.{◌≡◌, ℕ, ◌≤◌, ◌<◌, true, List, [], ◌∷◌, ◌++◌, length, take, is_some};
+ghost use Rattle.std.specs.Prelude.{◌≡◌, ℕ, ◌<◌, true, List, [], ◌∷◌, ◌++◌, length, take, is_some};
 ghost use Rattle.rules.specs.Lines.{Line, ended as ended_line, without_cr};
 ghost use Rattle.sheet_stages.specs.ToCome.{to_come, file_rows, row_first};
 ghost use Rattle.sample_rows.specs.Streamed.{lines_after, begun_in, text_of, yet_to_come, ExtendedRight, LineRight, NextRight, PulledRight, ending_of};
