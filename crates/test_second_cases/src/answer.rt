@@ -1,9 +1,9 @@
 // The answer to a case: what the second answers and the record that it hands back, as numbers, and the row in the lent buffer.
-use rules::answers::Refusal;
+use crate::case::Case;
 use crate::record_case::{inputs_in, put_record, run_in};
 use crate::station_case::station_in;
 use dispatch::second::second;
-use words::arithmetic::{lesser, wide};
+use rules::answers::Refusal;
 use words::refusals::NumberAndPlace;
 
 // Where a case has the lent buffer's length.
@@ -11,14 +11,6 @@ const ROOM: usize = 350;
 
 // A byte that no row has.
 const LENT: u8 = 0xaa;
-
-fn fill(lent: &mut [u8]) {
-    let mut i: usize = 0;
-    while i < lent.len() {
-        lent[i] = LENT;
-        i += 1;
-    }
-}
 
 // 0 and the row's length, or 1, the refusal's number and its place.
 fn put_outcome(answer: &mut [u64; 142], outcome: Result<usize, Refusal>) {
@@ -36,21 +28,15 @@ fn put_outcome(answer: &mut [u64; 142], outcome: Result<usize, Refusal>) {
 }
 
 // A buffer longer than the one that is lent counts as all of it.
-pub(crate) fn answer_case(
-    numbers: &[u32; 351],
-    long: &[u64; 351],
-    lent: &mut [u8],
-    answer: &mut [u64; 142],
-) {
-    let st = station_in(numbers, long);
-    let run = run_in(numbers, long);
-    let inputs = inputs_in(numbers);
-    fill(lent);
-    let asked = wide(numbers[ROOM]);
-    let room = lesser(asked, lent.len());
-    let handed = second(st, run, inputs, &mut lent[..room]);
-    let outcome = handed.answer;
-    let after = handed.run;
-    put_outcome(answer, outcome);
-    put_record(answer, after);
+pub(crate) fn answer_case(case: &Case, lent: &mut [u8], answer: &mut [u64; 142]) {
+    lent.fill(LENT);
+    let room = (case.narrow(ROOM) as usize).min(lent.len());
+    let handed = second(
+        station_in(case),
+        run_in(case),
+        inputs_in(case),
+        &mut lent[..room],
+    );
+    put_outcome(answer, handed.answer);
+    put_record(answer, handed.run);
 }

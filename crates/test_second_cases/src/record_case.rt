@@ -1,9 +1,10 @@
 // The run's record and the inputs of a case, and a record's numbers in the same order.
 ghost use Rattle.std.specs.Prelude.{◌+◌, ◌≤◌};
 
+use crate::case::Case;
 use crate::held::{bits_of, float_of};
 use rules::run::{Inputs, Mode, Run, SetState, Totals};
-use words::arithmetic::wide;
+use std::array::from_fn;
 
 // Where a case has them: the record, its 8 sets of 8 numbers, its totals, its 60 amounts, and the inputs.
 const RECORD: usize = 208;
@@ -26,54 +27,41 @@ fn mode_in(tag: u32, remaining: u32) -> Mode {
     }
 }
 
-fn state_in(numbers: &[u32; 351], long: &[u64; 351], at: usize) -> SetState
+fn state_in(case: &Case, at: usize) -> SetState
     requires { at + 8 ≤ 351 }
 {
-    let mode = mode_in(numbers[at], numbers[at + 1]);
+    let mode = mode_in(case.narrow(at), case.narrow(at + 1));
     SetState {
         mode,
-        run: numbers[at + 2],
-        clock: numbers[at + 3],
-        starts: numbers[at + 4],
-        stops: numbers[at + 5],
-        energy: long[at + 6],
-        fuel: long[at + 7],
+        run: case.narrow(at + 2),
+        clock: case.narrow(at + 3),
+        starts: case.narrow(at + 4),
+        stops: case.narrow(at + 5),
+        energy: case.long(at + 6),
+        fuel: case.long(at + 7),
     }
 }
 
-fn states_in(numbers: &[u32; 351], long: &[u64; 351]) -> [SetState; 8] {
-    let first = state_in(numbers, long, STATES);
-    let mut states = [first; 8];
-    let mut i: usize = 1;
-    while i < 8 {
-        states[i] = state_in(numbers, long, STATES + 8 * i);
-        i += 1;
-    }
-    states
+fn states_in(case: &Case) -> [SetState; 8] {
+    from_fn(|i| state_in(case, STATES + 8 * i))
 }
 
-fn totals_in(long: &[u64; 351]) -> Totals {
+fn totals_in(case: &Case) -> Totals {
     Totals {
-        offered: long[TOTALS],
-        load: long[TOTALS + 1],
-        shed: long[TOTALS + 2],
-        solar: long[TOTALS + 3],
-        charge: long[TOTALS + 4],
-        spill: long[TOTALS + 5],
-        give: long[TOTALS + 6],
-        diesel: long[TOTALS + 7],
-        unserved: long[TOTALS + 8],
+        offered: case.long(TOTALS),
+        load: case.long(TOTALS + 1),
+        shed: case.long(TOTALS + 2),
+        solar: case.long(TOTALS + 3),
+        charge: case.long(TOTALS + 4),
+        spill: case.long(TOTALS + 5),
+        give: case.long(TOTALS + 6),
+        diesel: case.long(TOTALS + 7),
+        unserved: case.long(TOTALS + 8),
     }
 }
 
-fn decided_in(numbers: &[u32; 351]) -> [u32; 60] {
-    let mut decided = [0u32; 60];
-    let mut i: usize = 0;
-    while i < 60 {
-        decided[i] = numbers[DECIDED + i];
-        i += 1;
-    }
-    decided
+fn decided_in(case: &Case) -> [u32; 60] {
+    from_fn(|i| case.narrow(DECIDED + i))
 }
 
 fn held_in(tag: u32, bits: u64) -> Option<f64> {
@@ -83,16 +71,16 @@ fn held_in(tag: u32, bits: u64) -> Option<f64> {
     Some(float_of(bits))
 }
 
-pub(crate) fn run_in(numbers: &[u32; 351], long: &[u64; 351]) -> Run {
-    let setpoint = held_in(numbers[RECORD + 4], long[RECORD + 5]);
-    let sets = states_in(numbers, long);
-    let decided = decided_in(numbers);
-    let totals = totals_in(long);
+pub(crate) fn run_in(case: &Case) -> Run {
+    let setpoint = held_in(case.narrow(RECORD + 4), case.long(RECORD + 5));
+    let sets = states_in(case);
+    let decided = decided_in(case);
+    let totals = totals_in(case);
     Run {
-        done: numbers[RECORD],
-        since: numbers[RECORD + 3],
-        called: wide(numbers[RECORD + 2]),
-        store: long[RECORD + 1],
+        done: case.narrow(RECORD),
+        since: case.narrow(RECORD + 3),
+        called: case.narrow(RECORD + 2) as usize,
+        store: case.long(RECORD + 1),
         setpoint,
         sets,
         decided,
@@ -100,11 +88,11 @@ pub(crate) fn run_in(numbers: &[u32; 351], long: &[u64; 351]) -> Run {
     }
 }
 
-pub(crate) fn inputs_in(numbers: &[u32; 351]) -> Inputs {
+pub(crate) fn inputs_in(case: &Case) -> Inputs {
     Inputs {
-        load: numbers[INPUTS],
-        solar: numbers[INPUTS + 1],
-        sheddable: numbers[INPUTS + 2],
+        load: case.narrow(INPUTS),
+        solar: case.narrow(INPUTS + 1),
+        sheddable: case.narrow(INPUTS + 2),
     }
 }
 
@@ -119,40 +107,29 @@ const TOTALS_OUT: usize = 73;
 const DECIDED_OUT: usize = 82;
 
 fn put_held(answer: &mut [u64; 142], held: Option<f64>) {
-    match held {
-        None => {}
-        Some(number) => {
-            answer[RECORD_OUT + 4] = 1;
-            answer[RECORD_OUT + 5] = bits_of(number);
-        }
+    if let Some(number) = held {
+        answer[RECORD_OUT + 4] = 1;
+        answer[RECORD_OUT + 5] = bits_of(number);
     }
 }
 
 // A mode's tag, and what remains of it.
-fn tag_of(mode: Mode) -> u64 {
+fn tagged(mode: Mode) -> (u64, u64) {
     match mode {
-        Mode::Off => 0,
-        Mode::Warming(_) => 1,
-        Mode::On => 2,
-        Mode::Cooling(_) => 3,
-        Mode::Service(_) => 4,
-    }
-}
-
-fn remaining_of(mode: Mode) -> u64 {
-    match mode {
-        Mode::Off | Mode::On => 0,
-        Mode::Warming(remaining) | Mode::Cooling(remaining) | Mode::Service(remaining) =>
-            remaining as u64,
+        Mode::Off => (0, 0),
+        Mode::Warming(remaining) => (1, remaining as u64),
+        Mode::On => (2, 0),
+        Mode::Cooling(remaining) => (3, remaining as u64),
+        Mode::Service(remaining) => (4, remaining as u64),
     }
 }
 
 fn put_state(answer: &mut [u64; 142], at: usize, state: SetState)
     requires { at + 8 ≤ 142 }
 {
-    let mode = state.mode;
-    answer[at] = tag_of(mode);
-    answer[at + 1] = remaining_of(mode);
+    let (tag, remaining) = tagged(state.mode);
+    answer[at] = tag;
+    answer[at + 1] = remaining;
     answer[at + 2] = state.run as u64;
     answer[at + 3] = state.clock as u64;
     answer[at + 4] = state.starts as u64;
@@ -162,11 +139,8 @@ fn put_state(answer: &mut [u64; 142], at: usize, state: SetState)
 }
 
 fn put_states(answer: &mut [u64; 142], states: [SetState; 8]) {
-    let mut i: usize = 0;
-    while i < 8 {
-        let state = states[i];
-        put_state(answer, STATES_OUT + 8 * i, state);
-        i += 1;
+    for i in 0..8 {
+        put_state(answer, STATES_OUT + 8 * i, states[i]);
     }
 }
 
@@ -183,24 +157,18 @@ fn put_totals(answer: &mut [u64; 142], totals: Totals) {
 }
 
 fn put_decided(answer: &mut [u64; 142], decided: [u32; 60]) {
-    let mut i: usize = 0;
-    while i < 60 {
+    for i in 0..60 {
         answer[DECIDED_OUT + i] = decided[i] as u64;
-        i += 1;
     }
 }
 
 pub(crate) fn put_record(answer: &mut [u64; 142], run: Run) {
-    let held = run.setpoint;
-    let sets = run.sets;
-    let totals = run.totals;
-    let decided = run.decided;
     answer[RECORD_OUT] = run.done as u64;
     answer[RECORD_OUT + 1] = run.store;
     answer[RECORD_OUT + 2] = run.called as u64;
     answer[RECORD_OUT + 3] = run.since as u64;
-    put_held(answer, held);
-    put_states(answer, sets);
-    put_totals(answer, totals);
-    put_decided(answer, decided);
+    put_held(answer, run.setpoint);
+    put_states(answer, run.sets);
+    put_totals(answer, run.totals);
+    put_decided(answer, run.decided);
 }

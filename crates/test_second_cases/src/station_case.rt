@@ -1,8 +1,9 @@
 // The station's record of a case.
 ghost use Rattle.std.specs.Prelude.{◌+◌, ◌≤◌};
 
+use crate::case::Case;
 use rules::station::{Battery, Control, GenSet, Station};
-use words::arithmetic::wide;
+use std::array::from_fn;
 
 // Where a case has them: the control's numbers, the battery's, 8 sets of 16, and 64 masks.
 const CONTROL: usize = 2;
@@ -13,95 +14,78 @@ const SETS: usize = 16;
 
 const MASKS: usize = 144;
 
-fn narrow_to_byte(number: u32) -> u8 {
-    (number % 256) as u8
-}
-
-fn control_in(numbers: &[u32; 351]) -> Control {
+fn control_in(case: &Case) -> Control {
     Control {
-        spinning: numbers[CONTROL],
-        coverage: numbers[CONTROL + 1],
-        minload: numbers[CONTROL + 2],
-        shed: numbers[CONTROL + 3],
-        delay: numbers[CONTROL + 4],
-        k: numbers[CONTROL + 5],
-        minseconds: numbers[CONTROL + 6],
-        maintain: numbers[CONTROL + 7],
-        online: numbers[CONTROL + 8],
+        spinning: case.narrow(CONTROL),
+        coverage: case.narrow(CONTROL + 1),
+        minload: case.narrow(CONTROL + 2),
+        shed: case.narrow(CONTROL + 3),
+        delay: case.narrow(CONTROL + 4),
+        k: case.narrow(CONTROL + 5),
+        minseconds: case.narrow(CONTROL + 6),
+        maintain: case.narrow(CONTROL + 7),
+        online: case.narrow(CONTROL + 8),
     }
 }
 
-fn battery_in(numbers: &[u32; 351], long: &[u64; 351]) -> Battery {
+fn battery_in(case: &Case) -> Battery {
     Battery {
-        power: numbers[BATTERY],
-        efficiency: numbers[BATTERY + 1],
-        least: long[BATTERY + 2],
-        most: long[BATTERY + 3],
-        start: long[BATTERY + 4],
+        power: case.narrow(BATTERY),
+        efficiency: case.narrow(BATTERY + 1),
+        least: case.long(BATTERY + 2),
+        most: case.long(BATTERY + 3),
+        start: case.long(BATTERY + 4),
     }
 }
 
 // Every second number from one on: a set's loads, or its rates.
-fn five_in(numbers: &[u32; 351], at: usize) -> [u32; 5]
+fn five_in(case: &Case, at: usize) -> [u32; 5]
     requires { at + 9 ≤ 351 }
 {
     [
-        numbers[at],
-        numbers[at + 2],
-        numbers[at + 4],
-        numbers[at + 6],
-        numbers[at + 8],
+        case.narrow(at),
+        case.narrow(at + 2),
+        case.narrow(at + 4),
+        case.narrow(at + 6),
+        case.narrow(at + 8),
     ]
 }
 
-fn set_in(numbers: &[u32; 351], at: usize) -> GenSet
+fn set_in(case: &Case, at: usize) -> GenSet
     requires { at + 16 ≤ 351 }
 {
-    let loads = five_in(numbers, at + 6);
-    let rates = five_in(numbers, at + 7);
+    let loads = five_in(case, at + 6);
+    let rates = five_in(case, at + 7);
     GenSet {
-        rating: numbers[at],
-        warmup: numbers[at + 1],
-        cooldown: numbers[at + 2],
-        interval: numbers[at + 3],
-        service: numbers[at + 4],
-        points: numbers[at + 5],
+        rating: case.narrow(at),
+        warmup: case.narrow(at + 1),
+        cooldown: case.narrow(at + 2),
+        interval: case.narrow(at + 3),
+        service: case.narrow(at + 4),
+        points: case.narrow(at + 5),
         loads,
         rates,
     }
 }
 
-fn sets_in(numbers: &[u32; 351]) -> [GenSet; 8] {
-    let first = set_in(numbers, SETS);
-    let mut sets = [first; 8];
-    let mut i: usize = 1;
-    while i < 8 {
-        sets[i] = set_in(numbers, SETS + 16 * i);
-        i += 1;
-    }
-    sets
+fn sets_in(case: &Case) -> [GenSet; 8] {
+    from_fn(|i| set_in(case, SETS + 16 * i))
 }
 
-fn masks_in(numbers: &[u32; 351]) -> [u8; 64] {
-    let mut masks = [0u8; 64];
-    let mut i: usize = 0;
-    while i < 64 {
-        masks[i] = narrow_to_byte(numbers[MASKS + i]);
-        i += 1;
-    }
-    masks
+fn masks_in(case: &Case) -> [u8; 64] {
+    from_fn(|i| (case.narrow(MASKS + i) % 256) as u8)
 }
 
-pub(crate) fn station_in(numbers: &[u32; 351], long: &[u64; 351]) -> Station {
-    let control = control_in(numbers);
-    let battery = battery_in(numbers, long);
-    let sets = sets_in(numbers);
-    let configs = masks_in(numbers);
+pub(crate) fn station_in(case: &Case) -> Station {
+    let control = control_in(case);
+    let battery = battery_in(case);
+    let sets = sets_in(case);
+    let configs = masks_in(case);
     Station {
         control,
         battery,
-        setcount: wide(numbers[0]),
-        configcount: wide(numbers[1]),
+        setcount: case.narrow(0) as usize,
+        configcount: case.narrow(1) as usize,
         sets,
         configs,
     }
