@@ -7,7 +7,8 @@ const BEFORE_NUMBER: &str = " (os error ";
 
 // The words alone, without the number that comes after them.
 fn words_of(text: &str) -> &str {
-    text.rsplit_once(BEFORE_NUMBER).map_or(text, |(words, _)| words)
+    text.rsplit_once(BEFORE_NUMBER)
+        .map_or(text, |(words, _)| words)
 }
 
 fn say_words<W: Write>(err: &mut W, text: &[u8]) {
