@@ -15,7 +15,7 @@ use Rattle.sheet_stages.specs.declared.stage.Stage.{Stage}
 use Rattle.rows_in_force.specs.declared.in_force.Ahead.{Ahead}
 use Rattle.rows_in_force.specs.declared.in_force.Begun.{Begun}
 use Rattle.input_source.specs.declared.source.InputSource.{InputSource}
-use Rattle.rows_in_force.specs.declared.in_force.FillState.{FillState}
+use Rattle.held_inputs.specs.declared.usual_seconds.FillState.{FillState}
 use Rattle.sheet_stages.specs.ToCome.{most_place, RowsRead, row_first}
 use Rattle.usual_rows.specs.Usual.{UsualLater}
 use Rattle.sample_rows.specs.Streamed.{yet_to_come}
@@ -123,15 +123,15 @@ module _ (t : FillState) (second places : ℕ) (chunk loads₁ solars₁ sheddab
   }
 
 -- where the tests passed, what was told is as the numbers have it
-told_is : (t : FillState) (columns : Columns) (last lines : ℕ) (x : Sample) → t.begun.stage ≡ Stage.LaterRows columns last lines → t.ahead ≡ Ahead.Next x → t.begun.len ≡ 0 → last ≡ x.at
-    → fill_state_at columns lines t.now x t.next t.seconds ≡ t
+told_is : (t : FillState) (columns : Columns) (last lines : ℕ) (x : Sample) → t.reached.begun.stage ≡ Stage.LaterRows columns last lines → t.reached.ahead ≡ Ahead.Next x → t.reached.begun.len ≡ 0 → last ≡ x.at
+    → fill_state_at columns lines t.reached.now x t.reached.next t.seconds ≡ t
 told_is t columns last lines x stage ahead none same =
-    let e : Stage.LaterRows columns x.at lines ≡ t.begun.stage = ap (λ (n : ℕ). Stage.LaterRows columns n lines) (sym same) ∙ sym stage in
-    λ i. record { begun = record { stage = e i; len = sym none i }; now = t.now; ahead = sym ahead i; next = t.next; seconds = t.seconds }
+    let e : Stage.LaterRows columns x.at lines ≡ t.reached.begun.stage = ap (λ (n : ℕ). Stage.LaterRows columns n lines) (sym same) ∙ sym stage in
+    λ i. record { reached = record { begun = record { stage = e i; len = sym none i }; now = t.reached.now; ahead = sym ahead i; next = t.reached.next }; seconds = t.seconds }
 
 pub goes-on-from : {second places : ℕ} {chunk loads solars sheddables loads' solars' sheddables' : List ℕ} {r : FillState} (t : FillState) (columns : Columns) (last lines : ℕ) (x : Sample)
-    → t.begun.stage ≡ Stage.LaterRows columns last lines → t.ahead ≡ Ahead.Next x → t.begun.len ≡ 0 → last ≡ x.at
-    → GoesOn (fill_state_at columns lines t.now x t.next t.seconds) second places chunk loads solars sheddables r loads' solars' sheddables'
+    → t.reached.begun.stage ≡ Stage.LaterRows columns last lines → t.reached.ahead ≡ Ahead.Next x → t.reached.begun.len ≡ 0 → last ≡ x.at
+    → GoesOn (fill_state_at columns lines t.reached.now x t.reached.next t.seconds) second places chunk loads solars sheddables r loads' solars' sheddables'
     → GoesOn t second places chunk loads solars sheddables r loads' solars' sheddables'
 goes-on-from {second} {places} {chunk} {loads} {solars} {sheddables} {loads'} {solars'} {sheddables'} {r} t columns last lines x stage ahead none same =
     subst (λ (from : FillState). GoesOn from second places chunk loads solars sheddables r loads' solars' sheddables') (told_is t columns last lines x stage ahead none same)

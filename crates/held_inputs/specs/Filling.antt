@@ -11,7 +11,7 @@ use Rattle.rows_in_force.specs.declared.in_force.Ahead.{Ahead}
 use Rattle.input_source.specs.declared.source.InputSource.{InputSource}
 use Rattle.held_inputs.specs.declared.fill.Filled.{Filled}
 use Rattle.rows_in_force.specs.declared.in_force.Reached.{Reached}
-use Rattle.rows_in_force.specs.declared.in_force.FillState.{FillState}
+use Rattle.held_inputs.specs.declared.usual_seconds.FillState.{FillState}
 use Rattle.sheet_stages.specs.ToCome.{RowsRead}
 use Rattle.rows_in_force.specs.Held.{is_refusal, held_from, latest, reader_at}
 use Rattle.input_source.specs.Source.{source_rows, source_ended, source_refused}
@@ -71,15 +71,16 @@ pub record FilledRight (s : InputSource) (second : ℕ) (chunk : List ℕ) (at :
 
 -- before the first second
 abbrev pub fill_begun : InputSource → ℕ → FillState
-fill_begun s next = record { begun = record { stage = s.reader.stage; len = s.reader.len }; now = s.now; ahead = s.ahead; next = next; seconds = 0 }
+fill_begun s next = record { reached = record { begun = record { stage = s.reader.stage; len = s.reader.len }; now = s.now; ahead = s.ahead; next = next }; seconds = 0 }
 
 -- no byte of a line has begun, and the next row is the last that was read
 abbrev pub fill_state_at : Columns → ℕ → Sample → Sample → ℕ → ℕ → FillState
-fill_state_at columns lines now x next seconds = record { begun = record { stage = Stage.LaterRows columns x.at lines; len = 0 }; now = now; ahead = Ahead.Next x; next = next; seconds = seconds }
+fill_state_at columns lines now x next seconds =
+    record { reached = record { begun = record { stage = Stage.LaterRows columns x.at lines; len = 0 }; now = now; ahead = Ahead.Next x; next = next }; seconds = seconds }
 
 -- with the bytes of the line that has begun
 abbrev pub filled_at : FillState → List ℕ → Filled
-filled_at t line = record { source = record { reader = reader_at t.begun line; now = t.now; ahead = t.ahead }; next = t.next; seconds = t.seconds }
+filled_at t line = record { source = record { reader = reader_at t.reached.begun line; now = t.reached.now; ahead = t.reached.ahead }; next = t.reached.next; seconds = t.seconds }
 
 -- where the chunk ends before the next second is told
 abbrev pub filled_short : Reached → SampleReader → ℕ → ℕ → Filled
@@ -87,7 +88,7 @@ filled_short q m seconds next = record { source = record { reader = m; now = q.n
 
 -- where it is told
 abbrev pub told_at : Reached → ℕ → FillState
-told_at q seconds = record { begun = q.begun; now = q.now; ahead = q.ahead; next = q.next; seconds = seconds }
+told_at q seconds = record { reached = q; seconds = seconds }
 
 -- what is owed of the seconds told so far, whether or not others can be told
 pub record Filling (s : InputSource) (second : ℕ) (chunk : List ℕ) (at : ℕ) (loads₀ solars₀ sheddables₀ : List ℕ) (r : Filled) (loads solars sheddables : List ℕ) : Type 0 where

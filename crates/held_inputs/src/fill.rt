@@ -6,9 +6,9 @@ ghost use Rattle.rows_in_force.specs.Held.{reader_at};
 ghost use Rattle.input_source.specs.Source.{source_refused};
 ghost use Rattle.held_inputs.specs.Filling.{places_of, FilledRight, fill_begun, filled_at, filled_short, told_at};
 
-use crate::usual_seconds::usual_seconds;
+use crate::usual_seconds::{FillState, usual_seconds};
 use input_source::source::{InputSource, source_refused};
-use rows_in_force::in_force::{Begun, FillState, Reached, reach};
+use rows_in_force::in_force::{Begun, Reached, reach};
 use sample_rows::reader::{SampleReader, kept};
 
 // So many seconds were told; the chunk is to be read on at `next`.
@@ -24,13 +24,15 @@ fn fill_begun(source: InputSource, next: usize) -> FillState
     ensures { result ≡ fill_begun source next }
 {
     FillState {
-        begun: Begun {
-            stage: source.reader.stage,
-            len: source.reader.len,
+        reached: Reached {
+            begun: Begun {
+                stage: source.reader.stage,
+                len: source.reader.len,
+            },
+            now: source.now,
+            ahead: source.ahead,
+            next,
         },
-        now: source.now,
-        ahead: source.ahead,
-        next,
         seconds: 0,
     }
 }
@@ -52,11 +54,11 @@ fn filled_at(told: FillState, line: [u8; 512]) -> Filled
 {
     Filled {
         source: InputSource {
-            reader: reader_at(told.begun, line),
-            now: told.now,
-            ahead: told.ahead,
+            reader: reader_at(told.reached.begun, line),
+            now: told.reached.now,
+            ahead: told.reached.ahead,
         },
-        next: told.next,
+        next: told.reached.next,
         seconds: told.seconds,
     }
 }
@@ -94,10 +96,7 @@ fn second_told(
     solars[i] = reached.now.solar;
     sheddables[i] = reached.now.sheddable;
     FillState {
-        begun: reached.begun,
-        now: reached.now,
-        ahead: reached.ahead,
-        next: reached.next,
+        reached,
         seconds: i + 1,
     }
 }
@@ -125,7 +124,7 @@ fn fill_seconds(
         if places <= i {
             return filled_at(usual, line);
         }
-        let reached = reach(usual, &line, first + i, chunk);
+        let reached = reach(usual.reached, &line, first + i, chunk);
         if reached.ahead.is_unread() {
             return filled_short(reached, line, i, chunk);
         }

@@ -2,11 +2,18 @@
 ghost use Rattle.std.specs.Prelude.{◌≡◌, ◌≤◌};
 ghost use Rattle.held_inputs.specs.Filling.{fill_state_at, places_of, GoesOn};
 
-use rows_in_force::in_force::{Ahead, Begun, FillState};
+use rows_in_force::in_force::{Ahead, Begun, Reached};
 use rules::samples::Sample;
 use sheet_headings::headings::Columns;
 use sheet_stages::stage::{Stage, next_line};
 use usual_rows::usual::usual_later;
+
+// So many seconds were told, and what was reached with them.
+#[derive(Clone, Copy)]
+pub(crate) struct FillState {
+    pub(crate) reached: Reached,
+    pub(crate) seconds: usize,
+}
 
 // The row in force and the next one, the last that was read, after so many lines.
 fn fill_state_at(
@@ -20,13 +27,15 @@ fn fill_state_at(
     ensures { result ≡ fill_state_at columns lines now row next seconds }
 {
     FillState {
-        begun: Begun {
-            stage: Stage::LaterRows(columns, row.at, lines),
-            len: 0,
+        reached: Reached {
+            begun: Begun {
+                stage: Stage::LaterRows(columns, row.at, lines),
+                len: 0,
+            },
+            now,
+            ahead: Ahead::Next(row),
+            next,
         },
-        now,
-        ahead: Ahead::Next(row),
-        next,
         seconds,
     }
 }
@@ -93,24 +102,25 @@ pub(crate) fn usual_seconds(
     requires { (first ≤ 4294967295) × (places ≤ places_of loads.old solars.old sheddables.old) }
     ensures { GoesOn told first places chunk.now loads.old solars.old sheddables.old result loads.new solars.new sheddables.new }
 {
-    let Stage::LaterRows(columns, last, lines) = told.begun.stage else {
+    let reached = told.reached;
+    let Stage::LaterRows(columns, last, lines) = reached.begun.stage else {
         return told;
     };
-    let Ahead::Next(row) = told.ahead else {
+    let Ahead::Next(row) = reached.ahead else {
         return told;
     };
-    if 0 < told.begun.len || last != row.at {
+    if 0 < reached.begun.len || last != row.at {
         return told;
     }
     let rows = UsualRows {
         columns,
         lines,
-        held: told.now,
+        held: reached.now,
         ahead: row,
     };
     fill_usual(
         rows,
-        told.next,
+        reached.next,
         told.seconds,
         first,
         places,

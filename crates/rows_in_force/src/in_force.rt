@@ -40,16 +40,6 @@ pub struct Begun {
     pub len: usize,
 }
 
-// So many seconds were told: the row in force and the rows after it; the chunk is to be read on at `next`.
-#[derive(Clone, Copy)]
-pub struct FillState {
-    pub begun: Begun,
-    pub now: Sample,
-    pub ahead: Ahead,
-    pub next: usize,
-    pub seconds: usize,
-}
-
 // The row in force at a second, of the rows that are known; where the next one is unread, it has to be read to tell.
 #[derive(Clone, Copy)]
 struct InForce {
@@ -57,7 +47,8 @@ struct InForce {
     ahead: Ahead,
 }
 
-// The row in force at a second; where the next one is unread, the chunk ends before that is known.
+// The row in force at a second and the rows after it; the chunk is to be read on at `next`. Where the next row is unread, the chunk ends
+// before the row in force is known.
 #[derive(Clone, Copy)]
 pub struct Reached {
     pub begun: Begun,
@@ -109,7 +100,7 @@ fn comes_in(held: Sample, ahead: Ahead, second: usize) -> InForce
 }
 
 // The row in force at a second after those that were told, with as many rows of the chunk as it takes.
-pub fn reach(told: FillState, line: &[u8; 512], second: usize, chunk: &[u8]) -> Reached
+pub fn reach(told: Reached, line: &[u8; 512], second: usize, chunk: &[u8]) -> Reached
     ensures { ReachedRight told.begun line.now told.now told.ahead second chunk.now told.next result }
 {
     let mut begun = told.begun;

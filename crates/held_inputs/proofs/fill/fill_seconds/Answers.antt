@@ -1,7 +1,7 @@
 -- `held_inputs::fill::fill_seconds` meets its contract: the seconds so far are told, and the others are told by what is left. Assumes nothing.
 use mathlib.Core.Path.{refl, sym, ap, ◌∙◌}
 use native.Mathlib.Omega.{arith}
-use Rattle.rows_in_force.specs.declared.in_force.FillState.{FillState}
+use Rattle.held_inputs.specs.declared.usual_seconds.FillState.{FillState}
 use Rattle.rows_in_force.specs.Held.{reader_at}
 use Rattle.held_inputs.specs.Filling.{filled_at}
 use Rattle.sample_rows.proofs.LineLaws.{kept_on}
@@ -58,7 +58,7 @@ returns-then-is_unread c =
     let g = c.usual_seconds-usual.ensures.filling a.source a.at a.loads.now a.solars.now a.sheddables.now line c.loop-told.invariant.0 (rw c.fill_begun-told.ensures at c.loop-told.invariant.1) in
     let told = sym c.is_unread.ensures ∙ c.if-is_unread.true in
     let keeps = kept_on (reader_at q.begun line) m _ (c.reach-reached.ensures.further told) c.filled_short.ensures.by_index in
-    rw c.filled_short.ensures.value (filled-short a.source a.first a.chunk.now a.at a.loads.now a.solars.now a.sheddables.now (filled_at usual line) _ _ _ g usual.begun line refl q c.reach-reached.ensures m keeps told c.requires.1 (omega (arith, c.if-places-i.false, c.loop-told.invariant.0)))
+    rw c.filled_short.ensures.value (filled-short a.source a.first a.chunk.now a.at a.loads.now a.solars.now a.sheddables.now (filled_at usual line) _ _ _ g usual.reached.begun line refl q c.reach-reached.ensures m keeps told c.requires.1 (omega (arith, c.if-places-i.false, c.loop-told.invariant.0)))
 
 pub second_told-told-requires : goal.second_told-told-requires
 second_told-told-requires c =
@@ -77,7 +77,7 @@ loop-told-preserved c =
     let from = (filled_at c.fill_begun-told.result line).source in
     let g = c.usual_seconds-usual.ensures.filling from a.at a.loads.now a.solars.now a.sheddables.now line c.loop-told.invariant.0 c.loop-told.invariant.1 in
     let s = c.second_told-told.ensures in
-    (c.loop-told.invariant.0, rw (s.value, s.loads_after.0, s.loads_after.1, s.loads_after.2) (filling-more from a.first a.chunk.now a.at a.loads.now a.solars.now a.sheddables.now (filled_at usual line) _ _ _ g usual.begun line refl c.reach-reached.result c.reach-reached.ensures (sym c.is_unread.ensures ∙ c.if-is_unread.false) (omega (arith, c.if-places-i.false, c.loop-told.invariant.0))))
+    (c.loop-told.invariant.0, rw (s.value, s.loads_after.0, s.loads_after.1, s.loads_after.2) (filling-more from a.first a.chunk.now a.at a.loads.now a.solars.now a.sheddables.now (filled_at usual line) _ _ _ g usual.reached.begun line refl c.reach-reached.result c.reach-reached.ensures (sym c.is_unread.ensures ∙ c.if-is_unread.false) (omega (arith, c.if-places-i.false, c.loop-told.invariant.0))))
 
 pub shape_of-loads : goal.shape_of-loads
 shape_of-loads c = c.loop-told.invariant.1.kept_loads.size

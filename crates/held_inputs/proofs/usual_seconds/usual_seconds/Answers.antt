@@ -10,8 +10,8 @@ returns-in_default c = none_told _ _ _ c.args.chunk.now c.args.loads.now c.args.
 pub returns-in_default-ahead : goal.returns-in_default-ahead
 returns-in_default-ahead c = none_told _ _ _ c.args.chunk.now c.args.loads.now c.args.solars.now c.args.sheddables.now
 
-pub returns-then-told-gt0 : goal.returns-then-told-gt0
-returns-then-told-gt0 c = none_told _ _ _ c.args.chunk.now c.args.loads.now c.args.solars.now c.args.sheddables.now
+pub returns-then-reached-gt0 : goal.returns-then-reached-gt0
+returns-then-reached-gt0 c = none_told _ _ _ c.args.chunk.now c.args.loads.now c.args.solars.now c.args.sheddables.now
 
 pub shape_of-loads : goal.shape_of-loads
 shape_of-loads c = c.fill_usual.ensures.same_loads
@@ -25,5 +25,5 @@ shape_of-sheddables c = c.fill_usual.ensures.same_sheddables
 pub returns : goal.returns
 returns c =
     let t = c.args.told in
-    let none : t.begun.len ≡ 0 = omega (arith, c.if-told-gt0.false) in
+    let none : t.reached.begun.len ≡ 0 = omega (arith, c.if-reached-gt0.false) in
     goes-on-from t c.in-LaterRows.columns c.in-LaterRows.last c.in-LaterRows.lines c.in-Next.row c.in-LaterRows.is c.in-Next.is none c.if-last-row.false c.fill_usual.ensures
