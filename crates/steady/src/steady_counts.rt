@@ -11,7 +11,7 @@ use gensets::share::upto;
 use rules::run::SetState;
 use rules::station::GenSet;
 use set_moves::commands::has_set;
-use words::masks::next_set;
+use words::masks::places_of;
 
 // What the seconds of a stretch have added to a set On.
 #[derive(Clone, Copy)]
@@ -36,19 +36,16 @@ pub(crate) fn count_steady(
     ensures { added.new ≡ added_after sets mask diesel added.old }
 {
     let mut given: u64 = 0;
-    let mut place = next_set(mask, 0);
-    while place < 8 {
-        let at = place as usize;
+    for place in places_of(mask) {
         // each less what the sets before it took: rounded alone, the shares would miss the diesel power
-        let together = upto(diesel, tables[at].sum as u32, cap);
+        let together = upto(diesel, tables[place].sum as u32, cap);
         let power = together - given;
         given = together;
-        let burns = burned_on(&tables[at].lines, power);
-        added[at] = Added {
-            energy: added[at].energy + power,
-            fuel: added[at].fuel + burns,
+        let burns = burned_on(&tables[place].lines, power);
+        added[place] = Added {
+            energy: added[place].energy + power,
+            fuel: added[place].fuel + burns,
         };
-        place = next_set(mask, place + 1);
     }
 }
 
