@@ -61,13 +61,11 @@ pub(crate) fn inputs_of(second: u32) -> Inputs {
 pub(crate) fn put_inputs(first: u32, count: usize, inputs: &mut [u32])
     requires { (count ≤ 384) × (3 * count ≤ length inputs.old) }
 {
-    let mut i: usize = 0;
-    while i < count {
-        let of_second = inputs_of(std::num::wrapping_add_u32(first, i as u32));
+    for i in 0..count {
+        let of_second = inputs_of(first.wrapping_add(i as u32));
         let at = 3 * i;
         inputs[at] = of_second.load;
         inputs[at + 1] = of_second.solar;
         inputs[at + 2] = of_second.sheddable;
-        i += 1;
     }
 }

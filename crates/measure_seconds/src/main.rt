@@ -13,7 +13,7 @@ use crate::source::station_bytes;
 use crate::work::{Tally, work_each, work_many};
 use exchange::action::Action;
 use exchange::event::Event;
-use perform::{no_files, perform};
+use perform::{Files, perform};
 use plain_words::numbers::number;
 use plain_words::texts::say;
 use records::start::start;
@@ -21,7 +21,7 @@ use rules::answers::Refusal;
 use rules::limits::MOST_SECONDS;
 use rules::run::Run;
 use rules::station::Station;
-use sheet::numbers::{CellFault, time};
+use sheet::numbers::time;
 use station::reader::read_station;
 use std::env::Env;
 use std::io::Write;
@@ -35,11 +35,11 @@ enum Way {
     Rows,
 }
 
-// The way that a word names, if any.
+// What the program is asked for.
 #[derive(Clone, Copy)]
-enum Named {
-    As(Way),
-    Unknown,
+struct Asked {
+    way: Way,
+    seconds: u32,
 }
 
 fn say_usage<W: Write>(err: &mut W) {
@@ -49,30 +49,42 @@ fn say_usage<W: Write>(err: &mut W) {
     );
 }
 
-fn way_of(word: &[u8]) -> Named {
-    if word == b"each".as_slice() {
-        return Named::As(Way::Each);
+fn way_of(word: &[u8]) -> Option<Way> {
+    match word {
+        b"each" => Some(Way::Each),
+        b"many" => Some(Way::Many),
+        b"rows" => Some(Way::Rows),
+        _ => None,
     }
-    if word == b"many".as_slice() {
-        return Named::As(Way::Many);
-    }
-    if word == b"rows".as_slice() {
-        return Named::As(Way::Rows);
-    }
-    Named::Unknown
 }
 
 // An argument that is too long for the buffer reads as an empty one, which is no word and no number here.
-fn way_asked(rt: &HostRuntime) -> Named {
+fn way_asked(rt: &HostRuntime) -> Option<Way> {
     let mut word = [0u8; 4096];
     let end = rt.arg(1, &mut word).unwrap_or(0);
     way_of(&word[..end])
 }
 
-fn seconds_asked(rt: &HostRuntime) -> Result<u32, CellFault> {
+fn seconds_asked(rt: &HostRuntime) -> Option<u32> {
     let mut digits = [0u8; 4096];
     let end = rt.arg(3, &mut digits).unwrap_or(0);
-    time(MOST_SECONDS, &digits[..end])
+    time(MOST_SECONDS, &digits[..end]).ok()
+}
+
+// Whether there are as many arguments as the program has, its own name counted.
+fn is_called(rt: &HostRuntime) -> bool {
+    let counted = perform(rt, &mut Files::new(), Action::Count, &mut [], &mut [], b"");
+    matches!(counted, Event::Count(4))
+}
+
+fn what_is_asked(rt: &HostRuntime) -> Option<Asked> {
+    if !is_called(rt) {
+        return None;
+    }
+    Some(Asked {
+        way: way_asked(rt)?,
+        seconds: seconds_asked(rt)?,
+    })
 }
 
 fn say_refusal<W: Write>(err: &mut W, refusal: Refusal) {
@@ -86,8 +98,7 @@ fn say_refusal<W: Write>(err: &mut W, refusal: Refusal) {
 
 // Where the rows were shown, standard output has nothing else.
 fn report(rt: &HostRuntime, tally: Tally, shown: bool) {
-    let verdict = tally.verdict;
-    if let Err(refusal) = verdict {
+    if let Err(refusal) = tally.verdict {
         let err = &mut rt.stderr();
         say(err, b"measure_seconds: second ");
         number(err, tally.seconds);
@@ -104,19 +115,18 @@ fn work_batches(rt: &HostRuntime, st: Station, run: Run, asked: u32, shown: bool
     report(rt, work_many(rt, st, run, asked, shown, &mut rows), shown);
 }
 
-fn work_station(rt: &HostRuntime, way: Way, st: Station, asked: u32) {
-    let started = start(st);
-    let run = started.run;
-    match way {
-        Way::Each => report(rt, work_each(st, run, asked), false),
-        Way::Many => work_batches(rt, st, run, asked, false),
-        Way::Rows => work_batches(rt, st, run, asked, true),
+fn work_station(rt: &HostRuntime, asked: Asked, st: Station) {
+    let run = start(st).run;
+    match asked.way {
+        Way::Each => report(rt, work_each(st, run, asked.seconds), false),
+        Way::Many => work_batches(rt, st, run, asked.seconds, false),
+        Way::Rows => work_batches(rt, st, run, asked.seconds, true),
     }
 }
 
-fn work_file(rt: &HostRuntime, way: Way, asked: u32, file: &[u8]) {
+fn work_file(rt: &HostRuntime, asked: Asked, file: &[u8]) {
     match read_station(file) {
-        Ok(st) => work_station(rt, way, st, asked),
+        Ok(st) => work_station(rt, asked, st),
         Err(refusal) => {
             let err = &mut rt.stderr();
             say(err, b"measure_seconds: the station file");
@@ -125,39 +135,16 @@ fn work_file(rt: &HostRuntime, way: Way, asked: u32, file: &[u8]) {
     }
 }
 
-fn work_asked(rt: &HostRuntime, way: Way, asked: u32, file: &mut [u8]) {
-    let got = station_bytes(rt, file);
-    if got.failed {
-        return;
+fn work_asked(rt: &HostRuntime, asked: Asked) {
+    let mut file = [0u8; 4096];
+    if let Some(size) = station_bytes(rt, &mut file) {
+        work_file(rt, asked, &file[..size]);
     }
-    let size = got.size;
-    work_file(rt, way, asked, &file[..size]);
-}
-
-// Whether there are as many arguments as the program has, its own name counted.
-fn is_called(rt: &HostRuntime) -> bool {
-    let counted = perform(rt, no_files(), Action::Count, &mut [], &mut [], b"");
-    if let Event::Count(count) = counted.event {
-        return count == 4;
-    }
-    false
 }
 
 fn main(rt: HostRuntime) {
-    if !is_called(&rt) {
-        say_usage(&mut rt.stderr());
-        return;
+    match what_is_asked(&rt) {
+        Some(asked) => work_asked(&rt, asked),
+        None => say_usage(&mut rt.stderr()),
     }
-    let named = way_asked(&rt);
-    let Named::As(way) = named else {
-        say_usage(&mut rt.stderr());
-        return;
-    };
-    let asked = seconds_asked(&rt);
-    let Ok(seconds) = asked else {
-        say_usage(&mut rt.stderr());
-        return;
-    };
-    let mut file = [0u8; 4096];
-    work_asked(&rt, way, seconds, &mut file);
 }

@@ -1,5 +1,4 @@
 // What the rows' bytes come to: how many there are, and Fletcher's two sums over them, which are the same however the bytes are parted.
-
 // The largest prime below 65,536, as Adler takes it.
 const MODULUS: u64 = 65_521;
 
@@ -15,37 +14,35 @@ pub(crate) struct RowBytes {
     pub(crate) high: u64,
 }
 
-pub(crate) fn no_bytes() -> RowBytes {
-    RowBytes {
-        count: 0,
-        low: 0,
-        high: 0,
+impl RowBytes {
+    pub(crate) fn new() -> RowBytes {
+        RowBytes {
+            count: 0,
+            low: 0,
+            high: 0,
+        }
     }
-}
 
-// With the first `size` bytes of a buffer, which has that many.
-pub(crate) fn with_bytes(before: RowBytes, buffer: &[u8], size: usize) -> RowBytes {
-    // never taken: no buffer here is larger, and no call answers more bytes than its buffer has
-    if MOST_SUMMED < size {
-        return before;
+    pub(crate) fn with(self, bytes: &[u8]) -> RowBytes {
+        // never taken: no buffer here is larger
+        if MOST_SUMMED < bytes.len() {
+            return self;
+        }
+        let mut low = self.low % MODULUS;
+        let mut high = self.high % MODULUS;
+        for byte in bytes {
+            low += u64::from(*byte);
+            high += low;
+        }
+        RowBytes {
+            count: self.count.wrapping_add(bytes.len() as u64),
+            low: low % MODULUS,
+            high: high % MODULUS,
+        }
     }
-    if buffer.len() < size {
-        return before;
-    }
-    let mut low = before.low % MODULUS;
-    let mut high = before.high % MODULUS;
-    for byte in &buffer[..size] {
-        low += *byte as u64;
-        high += low;
-    }
-    RowBytes {
-        count: before.count.wrapping_add(size as u64),
-        low: low % MODULUS,
-        high: high % MODULUS,
-    }
-}
 
-// Both sums as one number.
-pub(crate) fn checksum(bytes: RowBytes) -> u64 {
-    (bytes.high % MODULUS) * 65_536 + bytes.low % MODULUS
+    // Both sums as one number.
+    pub(crate) fn checksum(self) -> u64 {
+        (self.high % MODULUS) * 65_536 + self.low % MODULUS
+    }
 }

@@ -2,8 +2,8 @@
 ghost use Rattle.std.specs.Prelude.{◌≤◌};
 
 use crate::inputs::{inputs_of, put_inputs};
-use crate::output::wrote_start;
-use crate::row_bytes::{RowBytes, no_bytes, with_bytes};
+use crate::output::is_written;
+use crate::row_bytes::RowBytes;
 use dispatch::second::second;
 use row_texts::put_rows::put_rows;
 use rules::answers::{Ended, Refusal};
@@ -24,50 +24,40 @@ pub(crate) struct Tally {
     pub(crate) verdict: Result<(), Refusal>,
 }
 
+fn none_worked(first: Run) -> Tally {
+    Tally {
+        run: first,
+        seconds: 0,
+        bytes: RowBytes::new(),
+        verdict: Ok(()),
+    }
+}
+
 pub(crate) fn work_each(st: Station, first: Run, asked: u32) -> Tally {
     let mut row = [0u8; 256];
-    let mut run = first;
-    let mut bytes = no_bytes();
-    let mut i: u32 = 0;
-    while i < asked {
-        let handed = second(st, run, inputs_of(i), &mut row);
-        let answer = handed.answer;
-        match answer {
+    let mut tally = none_worked(first);
+    for i in 0..asked {
+        let handed = second(st, tally.run, inputs_of(i), &mut row);
+        match handed.answer {
             Ok(size) => {
-                run = handed.run;
-                bytes = with_bytes(bytes, &row, size);
-                i += 1;
+                tally.run = handed.run;
+                tally.seconds = u64::from(i) + 1;
+                tally.bytes = tally.bytes.with(start_of(&row, size));
             }
             Err(refusal) => {
-                return Tally {
-                    run,
-                    seconds: i as u64,
-                    bytes,
-                    verdict: Err(refusal),
-                };
+                tally.verdict = Err(refusal);
+                return tally;
             }
         }
     }
-    Tally {
-        run,
-        seconds: i as u64,
-        bytes,
-        verdict: Ok(()),
-    }
+    tally
 }
 
 // How many seconds the next batch has; none where all are done.
 fn next_count(asked: u32, done: u32) -> usize
     ensures { result ≤ 384 }
 {
-    if asked <= done {
-        return 0;
-    }
-    let left = asked - done;
-    if left < BATCH {
-        return left as usize;
-    }
-    BATCH as usize
+    asked.saturating_sub(done).min(BATCH) as usize
 }
 
 fn work_batch(st: Station, run: Run, count: usize, rows: &mut [u64]) -> Worked
@@ -75,8 +65,12 @@ fn work_batch(st: Station, run: Run, count: usize, rows: &mut [u64]) -> Worked
 {
     let mut inputs = [0u32; 1_152];
     put_inputs(run.done, count, &mut inputs);
-    let end = SECOND_INPUTS * count;
-    seconds(st, run, &inputs[..end], rows)
+    seconds(st, run, &inputs[..SECOND_INPUTS * count], rows)
+}
+
+// The first bytes of a buffer: no call answers more than its buffer has.
+fn start_of(buffer: &[u8], size: usize) -> &[u8] {
+    buffer.get(..size).unwrap_or(b"")
 }
 
 // The text of the first rows: its length.
@@ -85,54 +79,20 @@ fn put_text(rows: &[u64], count: usize, text: &mut [u8]) -> usize {
     if rows.len() / ROW_COLUMNS < count {
         return 0;
     }
-    let end = ROW_COLUMNS * count;
-    put_rows(&rows[..end], text).bytes
+    put_rows(&rows[..ROW_COLUMNS * count], text).bytes
 }
 
 // What the rules answer to the second that comes next, asked of that second alone.
 fn next_verdict(st: Station, run: Run) -> Result<(), Refusal> {
     let mut row = [0u8; 256];
-    let handed = second(st, run, inputs_of(run.done), &mut row);
-    let answer = handed.answer;
-    match answer {
-        Ok(_) => Ok(()),
-        Err(refusal) => Err(refusal),
-    }
-}
-
-fn verdict_of(st: Station, worked: Worked) -> Result<(), Refusal> {
-    let ended = worked.ended;
-    let run = worked.run;
-    if let Ended::BeforeRefused = ended {
-        return next_verdict(st, run);
-    }
+    second(st, run, inputs_of(run.done), &mut row).answer?;
     Ok(())
 }
 
-fn none_worked(first: Run) -> Tally {
-    Tally {
-        run: first,
-        seconds: 0,
-        bytes: no_bytes(),
-        verdict: Ok(()),
-    }
-}
-
-fn goes_on(verdict: Result<(), Refusal>) -> bool {
-    if let Ok(()) = verdict {
-        return true;
-    }
-    false
-}
-
-fn with_batch(before: Tally, worked: Worked, verdict: Result<(), Refusal>, text: &[u8], size: usize) -> Tally {
-    let run = worked.run;
-    let bytes = before.bytes;
-    Tally {
-        run,
-        seconds: std::num::wrapping_add_u64(before.seconds, worked.seconds as u64),
-        bytes: with_bytes(bytes, text, size),
-        verdict,
+fn verdict_of(st: Station, worked: Worked) -> Result<(), Refusal> {
+    match worked.ended {
+        Ended::BeforeRefused => next_verdict(st, worked.run),
+        Ended::AllWorked | Ended::NoRoom => Ok(()),
     }
 }
 
@@ -147,24 +107,24 @@ pub(crate) fn work_many(
 ) -> Tally {
     let mut rows = [0u64; 4_992];
     let mut tally = none_worked(first);
-    let mut turns = asked;
-    while 0 < turns {
-        turns -= 1;
-        let run = tally.run;
-        let count = next_count(asked, run.done);
+    for _ in 0..asked {
+        let count = next_count(asked, tally.run.done);
         if count == 0 {
             return tally;
         }
-        let worked = work_batch(st, run, count, &mut rows);
+        let worked = work_batch(st, tally.run, count, &mut rows);
         let size = put_text(&rows, worked.seconds, text);
-        let verdict = verdict_of(st, worked);
-        tally = with_batch(tally, worked, verdict, text, size);
-        if shown {
-            if !wrote_start(rt, text, size) {
-                return tally;
-            }
+        let text = start_of(text, size);
+        tally = Tally {
+            run: worked.run,
+            seconds: tally.seconds.wrapping_add(worked.seconds as u64),
+            bytes: tally.bytes.with(text),
+            verdict: verdict_of(st, worked),
+        };
+        if shown && !is_written(rt, text) {
+            return tally;
         }
-        if !goes_on(verdict) {
+        if tally.verdict.is_err() {
             return tally;
         }
     }
