@@ -1,14 +1,15 @@
 -- How the program was called, and the reading of both files inside it. Assumes nothing.
-use Prim.Native.Nat.{ℕ, ◌≤◌, ◌<◌, min}
+use Rattle.std.specs.Prelude.{nat_eq}
+use Rattle.std.specs.List.{starts_with}
+use Prim.Native.Nat.{ℕ, ◌≤◌, min}
 use mathlib.Core.Path.{◌≡◌, refl, sym, ap, ◌∙◌, subst}
-use mathlib.Core.Bool.{Bool, true, false, ◌&&◌}
+use mathlib.Core.Bool.{Bool, true, false}
 use mathlib.Core.List.{List, [], ◌∷◌}
 use native.Mathlib.Omega.{arith}
-use lib.Dec.{eqb}
-use lib.ListN.{length, take, get_or, length-take}
+use lib.Pointwise.{pointwise}
+use lib.ListN.{length, take, length-take}
 use lib.Seq.{take_all}
-use borrow.Author.Tests.{eq-eqb}
-use Rattle.rules.proofs.Tests.{never, both, and-true}
+use Rattle.rules.proofs.Tests.{never}
 use Rattle.exchange.specs.declared.action.Why.{Why}
 use Rattle.exchange.specs.declared.event.Event.{Event}
 use Rattle.exchange.specs.Existing.{gives_up}
@@ -20,8 +21,7 @@ use Rattle.judging.specs.Holds.{JudgeHoldsAt, JudgesFrom}
 use Rattle.judging.proofs.FrameLaws.{judging-writes-nothing, judging-keeps-arguments}
 use Rattle.run_stages.specs.declared.state.Stage.{Stage}
 use Rattle.run_stages.specs.declared.state.Held.{Held}
-use Rattle.run_stages.specs.declared.state.Machine.{Machine}
-use Rattle.run_stages.specs.Stages.{stopping}
+use Rattle.run_stages.specs.Stages.{Machine, stopping}
 use Rattle.run_stages.specs.Given.{files_of, RightCall, Called}
 use Rattle.run_stages.specs.StageSteps.{StepsFrom}
 use Rattle.run_calling.specs.Calls.{CallsWith, Tells, Names}
@@ -60,15 +60,6 @@ untold-call h told why r other stop g w buf out k five = none-stop g h w buf out
 
 -- ---- the word
 
--- bytes that are the word are told as it
-told-by : (word : List ℕ) → take 2 word ≡ 45 ∷ 51 ∷ [] → 2 ≤ length word → eqb (get_or word 0 0) 45 && eqb (get_or word 1 0) 51 ≡ true
-told-by [] e some = absurd (omega (arith, some))
-told-by (a ∷ []) e some = absurd (omega (arith, some))
-told-by (a ∷ b ∷ rest) e some =
-    let p : a ≡ 45 = ap (λ (l : List ℕ). get_or l 0 0) e in
-    let q : b ≡ 51 = ap (λ (l : List ℕ). get_or l 1 0) e in
-    rw (p, q)
-
 -- an argument that is the word has two bytes
 pub word_size : (word : List ℕ) (size : ℕ) → size ≤ length word → take size word ≡ 45 ∷ 51 ∷ [] → size ≡ 2
 word_size word size within e =
@@ -76,19 +67,12 @@ word_size word size within e =
     let two : length (take size word) ≡ 2 = ap length e in
     omega (arith, within, taken, two)
 
--- the test of the two bytes tells the word
-pub word-told : (word : List ℕ) (size : ℕ) (r : Bool) → r ≡ eqb size 2 && eqb (get_or word 0 0) 45 && eqb (get_or word 1 0) 51 → Tells word size r
-unfolding Tells
-word-told word size r is within e =
+-- the tests of the size and of the bytes tell the word
+pub word-told : (word : List ℕ) (size : ℕ) → size ≤ length word → take size word ≡ 45 ∷ 51 ∷ [] → (size ≡ 2) × (starts_with nat_eq word (45 ∷ 51 ∷ []) ≡ true)
+word-told word size within e =
     let two = word_size word size within e in
     let word-is : take 2 word ≡ 45 ∷ 51 ∷ [] = subst (λ (n : ℕ). take n word ≡ 45 ∷ 51 ∷ []) two e in
-    let t = both (eqb (get_or word 0 0) 45) (eqb (get_or word 1 0) 51) (told-by word word-is (omega (arith, two, within))) in
-    is ∙ and-true (and-true (eq-eqb size 2 two) t.0) t.1
-
--- no word stands in a buffer of one byte
-pub word-short : (word : List ℕ) (size : ℕ) → length word < 2 → Tells word size false
-unfolding Tells
-word-short word size less within e = let two = word_size word size within e in absurd (omega (arith, two, within, less))
+    (two, ap (pointwise nat_eq (45 ∷ 51 ∷ [])) word-is)
 
 -- ---- the steps of the call
 

@@ -35,8 +35,7 @@ use Rattle.exchange.specs.declared.event.Event.{Event}
 use Rattle.exchange.specs.World.{World}
 use Rattle.run_stages.specs.declared.state.Stage.{Stage}
 use Rattle.run_stages.specs.declared.state.Held.{Held}
-use Rattle.run_stages.specs.declared.state.Machine.{Machine}
-use Rattle.run_stages.specs.Stages.{stopping, works_from}
+use Rattle.run_stages.specs.Stages.{Machine, stopping, works_from}
 use Rattle.run_stages.specs.Given.{Given, text, OfSome}
 use Rattle.run_stages.specs.Holds.{Asking, seconds_of}
 use Rattle.run_stages.specs.StageSteps.{StepsFrom}

@@ -6,7 +6,7 @@ use Rattle.rows.specs.AnswerLine.{refused_line}
 use Rattle.exchange.specs.World.{World}
 use Rattle.run_stages.specs.declared.state.Stage.{Stage}
 use Rattle.run_stages.specs.declared.state.Held.{Held}
-use Rattle.run_stages.specs.declared.state.Machine.{Machine}
+use Rattle.run_stages.specs.Stages.{Machine}
 use Rattle.run_stages.specs.Given.{Given, text, RightCall, Called}
 use Rattle.run_stages.specs.Holds.{Reading, Asking, steps_at, steps_judged}
 use Rattle.run_stages.specs.StageSteps.{Nearer}

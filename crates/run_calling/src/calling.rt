@@ -1,5 +1,4 @@
 // How the program was called, and the reading of both files that follows.
-ghost use Rattle.std.specs.Prelude.{◌≡◌};
 ghost use Rattle.run_stages.specs.declared.state.Stage.{Stage};
 ghost use Rattle.run_stages.specs.StageSteps.{StepsFrom};
 ghost use Rattle.run_calling.specs.Calls.{CallsWith, Tells, Names};
@@ -8,7 +7,7 @@ use exchange::action::Why;
 use exchange::event::Event;
 use judging::judge::judge;
 use judging::state::JudgeStage;
-use run_stages::state::{Held, Machine, Stage, stopped};
+use run_stages::state::{Held, Machine, Stage};
 
 // The program's own name, STATION, SAMPLES and SECONDS; bin/run adds a word.
 const PLAIN: usize = 4;
@@ -18,19 +17,17 @@ const WITH_WORD: usize = 5;
 fn called(held: Held, count: usize) -> Machine
     ensures { CallsWith held count result }
 {
-    if count == PLAIN {
-        return Machine {
+    match count {
+        PLAIN => Machine {
             stage: Stage::Judging,
             held,
-        };
-    }
-    if count == WITH_WORD {
-        return Machine {
+        },
+        WITH_WORD => Machine {
             stage: Stage::Telling,
             held,
-        };
+        },
+        _ => Machine::stopped(held, Why::WrongCall),
     }
-    stopped(held, Why::WrongCall)
 }
 
 pub fn counted(held: Held, event: Event, buf: &[u8], out: &mut [u8]) -> Machine
@@ -38,10 +35,9 @@ pub fn counted(held: Held, event: Event, buf: &[u8], out: &mut [u8]) -> Machine
 {
     match event {
         Event::Count(count) => called(held, count),
-        Event::Done => stopped(held, Why::Broken),
-        Event::Read(_) => stopped(held, Why::Broken),
-        Event::End => stopped(held, Why::Broken),
-        Event::Failed => stopped(held, Why::Broken),
+        Event::Done | Event::Read(_) | Event::End | Event::Failed => {
+            Machine::stopped(held, Why::Broken)
+        }
     }
 }
 
@@ -49,23 +45,18 @@ pub fn counted(held: Held, event: Event, buf: &[u8], out: &mut [u8]) -> Machine
 fn is_told(word: &[u8], size: usize) -> bool
     ensures { Tells word.now size result }
 {
-    if word.len() < 2 {
-        return false;
-    }
-    (size == 2) & (word[0] == b'-') & (word[1] == b'3')
+    size == 2 && word.starts_with(b"-3")
 }
 
 fn named(held: Held, told: bool) -> Machine
     ensures { Names held told result }
 {
     if !told {
-        return stopped(held, Why::WrongCall);
+        return Machine::stopped(held, Why::WrongCall);
     }
-    let mut h = held;
-    h.told = true;
     Machine {
         stage: Stage::Judging,
-        held: h,
+        held: Held { told: true, ..held },
     }
 }
 
@@ -74,10 +65,8 @@ pub fn telling(held: Held, event: Event, buf: &[u8], out: &mut [u8]) -> Machine
 {
     match event {
         Event::Read(size) => named(held, is_told(buf, size)),
-        Event::Done => stopped(held, Why::Broken),
-        Event::Count(_) => stopped(held, Why::Broken),
-        Event::End => stopped(held, Why::Broken),
-        Event::Failed => stopped(held, Why::WrongCall),
+        Event::Failed => Machine::stopped(held, Why::WrongCall),
+        Event::Done | Event::Count(_) | Event::End => Machine::stopped(held, Why::Broken),
     }
 }
 
@@ -86,29 +75,20 @@ pub fn judged(held: Held, event: Event, buf: &[u8], out: &mut [u8]) -> Machine
     ensures { StepsFrom Stage.Judging held event buf.now out.old result out.new }
 {
     let judging = judge(held.judging, event, buf);
-    let stage = judging.stage;
-    let mut h = held;
-    h.judging = judging;
-    match stage {
+    let held = Held { judging, ..held };
+    match judging.stage {
         JudgeStage::Judged => Machine {
             stage: Stage::AskSeconds,
-            held: h,
+            held,
         },
-        JudgeStage::Stopped(why) => stopped(h, why),
-        JudgeStage::OpenStation => reading(h),
-        JudgeStage::ReadStation => reading(h),
-        JudgeStage::OpenSamples => reading(h),
-        JudgeStage::ToStart => reading(h),
-        JudgeStage::ReadSamples => reading(h),
-    }
-}
-
-// The files are read on.
-fn reading(held: Held) -> Machine
-    ensures { result ≡ record { stage = Stage.Judging; held = held } }
-{
-    Machine {
-        stage: Stage::Judging,
-        held,
+        JudgeStage::Stopped(why) => Machine::stopped(held, why),
+        JudgeStage::OpenStation
+        | JudgeStage::ReadStation
+        | JudgeStage::OpenSamples
+        | JudgeStage::ToStart
+        | JudgeStage::ReadSamples => Machine {
+            stage: Stage::Judging,
+            held,
+        },
     }
 }

@@ -21,8 +21,7 @@ use Rattle.exchange.proofs.WellLaws.{well-keep}
 use Rattle.judging.specs.declared.state.JudgeStage.{JudgeStage}
 use Rattle.judging.proofs.AskLaws.{reading-room}
 use Rattle.run_stages.specs.declared.state.Stage.{Stage}
-use Rattle.run_stages.specs.declared.state.Machine.{Machine}
-use Rattle.run_stages.specs.Stages.{asks, asks_of}
+use Rattle.run_stages.specs.Stages.{Machine, asks, asks_of}
 use Rattle.run_stages.specs.Given.{Given, text, RightCall}
 use Rattle.run_stages.specs.Holds.{Stopped, Holds}
 use Rattle.run_machine.specs.Steps.{Steps, Starting, Opens}

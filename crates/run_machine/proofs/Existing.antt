@@ -15,20 +15,26 @@ use Rattle.exchange.specs.World.{World}
 use Rattle.exchange.specs.Existing.{WorldHeld, EventHeld, Answered, Lists}
 use Rattle.exchange.proofs.ExistLaws.{such-lists}
 use Rattle.exchange.proofs.EventHeld.{event-of-held, held-of-event}
-use Rattle.run_stages.specs.declared.state.Machine.{Machine}
-use Rattle.run_stages.specs.Stages.{asks_of}
+use Rattle.run_stages.specs.Stages.{Machine, asks_of}
 use Rattle.run_stages.specs.Given.{Given}
 use Rattle.run_stages.specs.Holds.{Holds, steps_left}
 use Rattle.run_machine.specs.Steps.{Steps, Starting, Opens}
 use Rattle.run_machine.proofs.Program.{Opened, Stepped, open-owes, step-owes}
-use Rattle.run_stages.specs.contracts.state.Machine.{the_type}
-use Rattle.run_stages.proofs.state.Machine.TheLaws.{the_laws}
+use Rattle.exchange.specs.contracts.machine.Machine as machine
+use Rattle.exchange.proofs.machine.Machine.TheLaws as machine-laws
+use Rattle.run_stages.specs.contracts.state.Stage as stage
+use Rattle.run_stages.specs.contracts.state.Held as held
+use Rattle.run_stages.proofs.state.Stage.TheLaws as stage-laws
+use Rattle.run_stages.proofs.state.Held.TheLaws as held-laws
 use Rattle.run_machine.proofs.next.begin.Kinds as begin-kinds
 use Rattle.run_machine.proofs.next.next.Kinds as next-kinds
 
 -- a state that machine values of its type mean
 abbrev pub MachineHeld : Machine → Type 0
-MachineHeld m = Is (row the_type) m (val the_type the_laws m ∷ [])
+MachineHeld m =
+    let type = machine.the_type stage.the_row held.the_row in
+    let laws = machine-laws.the_laws stage.the_row held.the_row stage-laws.the_row_laws held-laws.the_row_laws stage-laws.the_told held-laws.the_told in
+    Is (row type) m (val type laws m ∷ [])
 
 -- what the types of `next` can hold is what the logic knows of its arguments, with slices of bytes
 pub held-of-good : (κs : Lfts 2) (args : kinds.Dens κs next-kinds.ps) → kinds.GoodsP κs next-kinds.ps args → AreBytes args.1.1.0.now → AreBytes args.1.1.1.0.now

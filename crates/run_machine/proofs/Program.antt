@@ -24,8 +24,7 @@ use Rattle.judging.specs.declared.state.JudgeStage.{JudgeStage}
 use Rattle.judging.specs.Stages.{judge_asks}
 use Rattle.run_stages.specs.declared.state.Stage.{Stage}
 use Rattle.run_stages.specs.declared.state.Held.{Held}
-use Rattle.run_stages.specs.declared.state.Machine.{Machine}
-use Rattle.run_stages.specs.Stages.{asks, asks_of}
+use Rattle.run_stages.specs.Stages.{Machine, asks, asks_of}
 use Rattle.run_stages.specs.Given.{Given, text, Called, Agreed, Sets}
 use Rattle.run_stages.specs.Holds.{Stopped, HoldsAt, Holds, steps_left, seconds_of}
 use Rattle.run_machine.specs.Steps.{Steps, Starting, Opens}

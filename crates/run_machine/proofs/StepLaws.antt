@@ -19,8 +19,7 @@ use Rattle.judging.specs.Holds as judging
 use Rattle.judging.specs.Holds.{JudgeHolds, judge_steps, judge_steps_at, JudgeHoldsAt}
 use Rattle.run_stages.specs.declared.state.Stage.{Stage}
 use Rattle.run_stages.specs.declared.state.Held.{Held}
-use Rattle.run_stages.specs.declared.state.Machine.{Machine}
-use Rattle.run_stages.specs.Stages.{asks_of, stopping, moved_by}
+use Rattle.run_stages.specs.Stages.{Machine, asks_of, stopping, moved_by}
 use Rattle.run_stages.specs.Given.{Goes, OfSome, files_of}
 use Rattle.run_stages.specs.Holds.{steps_left}
 use Rattle.run_stages.specs.StageSteps.{Well, Nearer, StepsFrom}

@@ -3,8 +3,7 @@ use Rattle.std.specs.Prelude.{ℕ, ◌+◌, ◌≡◌, false, List, [], ◌∷�
 use Rattle.exchange.specs.declared.event.Event.{Event}
 use Rattle.exchange.specs.Existing.{gives_up}
 use Rattle.exchange.specs.World.{World, left_of, again_of, Fits, after}
-use Rattle.run_stages.specs.declared.state.Machine.{Machine}
-use Rattle.run_stages.specs.Stages.{asks_of}
+use Rattle.run_stages.specs.Stages.{Machine, asks_of}
 use Rattle.run_stages.specs.Given.{Given}
 use Rattle.run_stages.specs.Holds.{Holds, steps_left, steps_judged}
 use Rattle.run_stages.specs.StageSteps.{Well, Nearer}

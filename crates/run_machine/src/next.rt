@@ -11,7 +11,7 @@ use run_calling::calling::{counted, judged, telling};
 use run_calling::seconds::seconds_asked;
 use run_second_pass::second_pass::second_read;
 use run_second_pass::writing::written;
-use run_stages::state::{Held, Machine, Stage, moved, stopped};
+use run_stages::state::{Held, Machine, Stage};
 use samples::check::{check, finish};
 use station::chunks::station_bytes;
 use tally::no_bytes;
@@ -43,22 +43,26 @@ fn step(machine: Machine, event: Event, buf: &[u8], out: &mut [u8]) -> Machine
     ensures { StepsFrom machine.stage machine.held event buf.now out.old result out.new }
 {
     let held = machine.held;
-    let stage = machine.stage;
-    match stage {
+    match machine.stage {
         Stage::Counting => counted(held, event, buf, out),
         Stage::Telling => telling(held, event, buf, out),
         Stage::Judging => judged(held, event, buf, out),
         Stage::AskSeconds => seconds_asked(held, event, buf, out),
-        Stage::ToSecondPass => moved(held, event, Stage::SecondPass, Why::ReadOnce(SAMPLES)),
+        Stage::ToSecondPass => Machine::moved(
+            held,
+            event,
+            Stage::SecondPass,
+            Stage::Stop(Word::Nothing(Why::ReadOnce(SAMPLES))),
+        ),
         Stage::SecondPass => second_read(held, event, buf, out),
         Stage::Write(size, wants) => written(held, size, wants, event, buf, out),
-        Stage::Answer(_, refusal) => moved(
+        Stage::Answer(_, refusal) => Machine::moved(
             held,
             event,
             Stage::Stop(Word::Refused(refusal)),
-            Why::Unwritten,
+            Stage::Stop(Word::Nothing(Why::Unwritten)),
         ),
-        Stage::Stop(_) => stopped(held, Why::Broken),
+        Stage::Stop(_) => Machine::stopped(held, Why::Broken),
     }
 }
 
@@ -66,11 +70,8 @@ fn step(machine: Machine, event: Event, buf: &[u8], out: &mut [u8]) -> Machine
 pub fn next(machine: Machine, event: Event, buf: &[u8], out: &mut [u8]) -> Machine
     ensures { Steps machine event buf.now out.old result out.new }
 {
-    if buf.len() < LEAST_READ {
-        return stopped(machine.held, Why::SmallBuffer);
-    }
-    if out.len() < LEAST_ROW_BUFFER {
-        return stopped(machine.held, Why::SmallBuffer);
+    if buf.len() < LEAST_READ || out.len() < LEAST_ROW_BUFFER {
+        return Machine::stopped(machine.held, Why::SmallBuffer);
     }
     step(machine, event, buf, out)
 }

@@ -24,8 +24,7 @@ use Rattle.exchange.specs.declared.action.Why.{Why}
 use Rattle.exchange.specs.World.{left_of}
 use Rattle.run_stages.specs.declared.state.Stage.{Stage}
 use Rattle.run_stages.specs.declared.state.Held.{Held}
-use Rattle.run_stages.specs.declared.state.Machine.{Machine}
-use Rattle.run_stages.specs.Stages.{stopping}
+use Rattle.run_stages.specs.Stages.{Machine, stopping}
 use Rattle.run_stages.specs.Given.{Given, text, Agreed, Goes, OfSome}
 use Rattle.run_stages.specs.Holds.{after_chunk, to_read, Tallies, Wanting, want_steps, pass_steps}
 use Rattle.run_second_pass.specs.Passes.{HandsOver, is_over, Finishes}

@@ -20,8 +20,7 @@ use Rattle.exchange.specs.World.{World, left_of, again_of, with_file, with_writt
 use Rattle.judging.proofs.StopLaws.{less-left}
 use Rattle.run_stages.specs.declared.state.Stage.{Stage}
 use Rattle.run_stages.specs.declared.state.Held.{Held}
-use Rattle.run_stages.specs.declared.state.Machine.{Machine}
-use Rattle.run_stages.specs.Stages.{stopping}
+use Rattle.run_stages.specs.Stages.{Machine, stopping}
 use Rattle.run_stages.specs.Given.{Given, Goes}
 use Rattle.run_stages.specs.Holds.{after_chunk, Tallies, to_read, Wanting, Writing, pass_steps, want_steps}
 use Rattle.run_stages.specs.StageSteps.{StepsFrom}

@@ -5,7 +5,7 @@ use Rattle.run_phases.specs.declared.state.Wants.{Wants}
 use Rattle.run_texts.specs.Coming.{finished, weight}
 use Rattle.exchange.specs.World.{World, left_of}
 use Rattle.run_stages.specs.declared.state.Held.{Held}
-use Rattle.run_stages.specs.declared.state.Machine.{Machine}
+use Rattle.run_stages.specs.Stages.{Machine}
 use Rattle.run_stages.specs.Given.{Given}
 use Rattle.run_stages.specs.Holds.{Running, Handing, Wanting, pass_steps, want_steps}
 use Rattle.run_stages.specs.StageSteps.{Nearer}

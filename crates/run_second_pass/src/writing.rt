@@ -7,14 +7,14 @@ use crate::hand_over::{finished, hand_over};
 use exchange::action::Why;
 use exchange::event::Event;
 use run_phases::state::Wants;
-use run_stages::state::{Held, Machine, Stage, stopped};
+use run_stages::state::{Held, Machine, Stage};
 
 // What the run wants after the bytes that were written.
 fn write_done(held: Held, wants: Wants, buf: &[u8], out: &mut [u8]) -> Machine
     ensures { GoesOn held wants buf.now out.old result out.new }
 {
     match wants {
-        Wants::Further => stopped(held, Why::Broken),
+        Wants::Further => Machine::stopped(held, Why::Broken),
         Wants::Input => Machine {
             stage: Stage::SecondPass,
             held,
@@ -36,9 +36,7 @@ pub fn written(
 {
     match event {
         Event::Done => write_done(held, wants, buf, out),
-        Event::Count(_) => stopped(held, Why::Broken),
-        Event::Read(_) => stopped(held, Why::Broken),
-        Event::End => stopped(held, Why::Broken),
-        Event::Failed => stopped(held, Why::Unwritten),
+        Event::Failed => Machine::stopped(held, Why::Unwritten),
+        Event::Count(_) | Event::Read(_) | Event::End => Machine::stopped(held, Why::Broken),
     }
 }

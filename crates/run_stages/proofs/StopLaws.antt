@@ -32,8 +32,7 @@ use Rattle.judging.specs.Stages.{judge_asks}
 use Rattle.judging.proofs.FrameLaws.{judging-writes-nothing, read-frame, rewind-frame}
 use Rattle.run_stages.specs.declared.state.Stage.{Stage}
 use Rattle.run_stages.specs.declared.state.Held.{Held}
-use Rattle.run_stages.specs.declared.state.Machine.{Machine}
-use Rattle.run_stages.specs.Stages.{asks, stopping}
+use Rattle.run_stages.specs.Stages.{Machine, asks, stopping}
 use Rattle.run_stages.specs.Given.{Given, text, Goes, OfSome, SetsToCome, Sets}
 use Rattle.run_stages.specs.Holds.{Running, Handing, Tallies, Unfinished, Stopped, HoldsAt, steps_at}
 use Rattle.run_stages.specs.StageSteps.{Well, Nearer, StepsFrom}

@@ -17,8 +17,8 @@ use Rattle.exchange.specs.Events.{Begins}
 use Rattle.judging.specs.Stages.{judge_asks}
 use Rattle.judging.specs.Holds.{Judged, JudgeHolds, judge_steps}
 use Rattle.run_stages.specs.declared.state.Stage.{Stage}
+use Rattle.run_stages.specs.Stages.{Machine}
 use Rattle.run_stages.specs.declared.state.Held.{Held}
-use Rattle.run_stages.specs.declared.state.Machine.{Machine}
 use Rattle.run_stages.specs.Given.{Given, files_of, text, Called, Agreed, Goes, OfSome, Sets}
 
 -- until both files are judged

@@ -5,8 +5,7 @@ use Rattle.exchange.specs.Existing.{is_failed, gives_up}
 use Rattle.exchange.specs.World.{World, Fits, after}
 use Rattle.run_stages.specs.declared.state.Stage.{Stage}
 use Rattle.run_stages.specs.declared.state.Held.{Held}
-use Rattle.run_stages.specs.declared.state.Machine.{Machine}
-use Rattle.run_stages.specs.Stages.{asks, asks_of}
+use Rattle.run_stages.specs.Stages.{Machine, asks, asks_of}
 use Rattle.run_stages.specs.Given.{Given, RightCall}
 use Rattle.run_stages.specs.Holds.{HoldsAt, Holds, steps_at, steps_left}
 

@@ -5,12 +5,17 @@ use Rattle.exchange.specs.declared.action.Action.{Action}
 use Rattle.exchange.specs.declared.action.Why.{Why}
 use Rattle.exchange.specs.declared.action.Word.{Word}
 use Rattle.exchange.specs.declared.event.Event.{Event}
+use Rattle.exchange.specs.declared.machine.Machine as machine
+use Rattle.exchange.specs.Machines as machines
+use Rattle.exchange.specs.Machines.{standing}
 use Rattle.exchange.specs.World.{buffer_end}
 use Rattle.judging.specs.declared.state.JudgeStage.{JudgeStage}
 use Rattle.judging.specs.Stages.{judge_asks}
 use Rattle.run_stages.specs.declared.state.Stage.{Stage}
 use Rattle.run_stages.specs.declared.state.Held.{Held}
-use Rattle.run_stages.specs.declared.state.Machine.{Machine}
+
+abbrev pub Machine : Type 0
+Machine = machine.Machine Stage Held
 
 abbrev pub asks : Stage → JudgeStage → Action
 asks Stage.Counting judging = Action.Count
@@ -28,7 +33,7 @@ asks_of m = asks m.stage m.held.judging.stage
 
 -- without a complete answer
 abbrev pub stopping : Held → Why → Machine
-stopping h why = record { stage = Stage.Stop (Word.Nothing why); held = h }
+stopping h why = standing (Stage.Stop (Word.Nothing why)) h
 
 -- with the run that begins
 abbrev pub with_run : Held → Simulation → Held
@@ -37,10 +42,6 @@ with_run h s = record { judging = h.judging; second = h.second; simulation = s; 
 abbrev pub works_from : Held → Simulation → Machine
 works_from h s = record { stage = Stage.ToSecondPass; held = with_run h s }
 
--- what was asked for was done, or not
+-- what was asked for was done, or failed
 abbrev pub moved_by : Event → Held → Stage → Why → Machine
-moved_by Event.Done h next why = record { stage = next; held = h }
-moved_by (Event.Count n) h next why = stopping h Why.Broken
-moved_by (Event.Read n) h next why = stopping h Why.Broken
-moved_by Event.End h next why = stopping h Why.Broken
-moved_by Event.Failed h next why = stopping h why
+moved_by e h next why = machines.moved_by (λ why. Stage.Stop (Word.Nothing why)) e h next (Stage.Stop (Word.Nothing why))

@@ -1,9 +1,11 @@
 // Where the program stands between two actions.
 ghost use Rattle.std.specs.Prelude.{◌≡◌};
-ghost use Rattle.run_stages.specs.Stages.{asks, stopping, moved_by};
+ghost use Rattle.exchange.specs.declared.action.Word.{Word};
+ghost use Rattle.run_stages.specs.declared.state.Stage.{Stage};
+ghost use Rattle.run_stages.specs.Stages.{asks};
 
 use exchange::action::{Action, BUFFER_END, Why, Word};
-use exchange::event::Event;
+use exchange::machine;
 use judging::state::{Judging, SAMPLES, judge_asks};
 use rules::answers::Refusal;
 use run_phases::state::{Simulation, Wants};
@@ -49,52 +51,28 @@ pub struct Held {
     pub working: bool,
 }
 
-#[derive(Clone, Copy)]
-pub struct Machine {
-    pub stage: Stage,
-    pub held: Held,
+pub type Machine = machine::Machine<Stage, Held>;
+
+impl machine::Stage for Stage {
+    ghost stop_at = { λ why. Stage.Stop (Word.Nothing why) };
+
+    fn stop(why: Why) -> Stage {
+        Stage::Stop(Word::Nothing(why))
+    }
 }
 
 // What is to be done next.
 pub fn asked(machine: Machine) -> Action
     ensures { result ≡ asks machine.stage machine.held.judging.stage }
 {
-    let stage = machine.stage;
-    let held = machine.held;
-    let judging = held.judging;
-    let reading = judging.stage;
-    match stage {
+    match machine.stage {
         Stage::Counting => Action::Count,
         Stage::Telling => Action::Argument(TOLD),
-        Stage::Judging => judge_asks(reading),
+        Stage::Judging => judge_asks(machine.held.judging.stage),
         Stage::AskSeconds => Action::Argument(SECONDS),
         Stage::ToSecondPass => Action::Rewind(SAMPLES),
         Stage::SecondPass => Action::Read(SAMPLES, 0, BUFFER_END),
-        Stage::Write(size, _) => Action::Write(size),
-        Stage::Answer(size, _) => Action::Write(size),
+        Stage::Write(size, _) | Stage::Answer(size, _) => Action::Write(size),
         Stage::Stop(word) => Action::Stop(word),
-    }
-}
-
-// Without a complete answer.
-pub fn stopped(held: Held, why: Why) -> Machine
-    ensures { result ≡ stopping held why }
-{
-    Machine {
-        stage: Stage::Stop(Word::Nothing(why)),
-        held,
-    }
-}
-
-// Where what was asked for was done, what comes next.
-pub fn moved(held: Held, event: Event, next: Stage, why: Why) -> Machine
-    ensures { result ≡ moved_by event held next why }
-{
-    match event {
-        Event::Done => Machine { stage: next, held },
-        Event::Count(_) => stopped(held, Why::Broken),
-        Event::Read(_) => stopped(held, Why::Broken),
-        Event::End => stopped(held, Why::Broken),
-        Event::Failed => stopped(held, why),
     }
 }

@@ -1,12 +1,13 @@
 -- `called` meets its contract. Assumes nothing.
+use native.Mathlib.Omega.{arith}
 use Rattle.run_calling.proofs.CallingLaws.{plain-call, word-call, wrong-call}
 use Rattle.run_calling.proofs.calling.called.Goals as goal
 
-pub returns-then-count-eq-PLAIN : goal.returns-then-count-eq-PLAIN
-returns-then-count-eq-PLAIN c = plain-call c.args.held c.args.count c.if-count-eq-PLAIN.true
+pub returns-in-4 : goal.returns-in-4
+returns-in-4 c = plain-call c.args.held c.args.count c.in-4.is
 
-pub returns-then-count-eq-WITH_WORD : goal.returns-then-count-eq-WITH_WORD
-returns-then-count-eq-WITH_WORD c = word-call c.args.held c.args.count c.if-count-eq-WITH_WORD.true
+pub returns-in-5 : goal.returns-in-5
+returns-in-5 c = word-call c.args.held c.args.count c.in-5.is
 
-pub returns : goal.returns
-returns c = wrong-call c.args.held c.args.count _ _ c.if-count-eq-PLAIN.false c.if-count-eq-WITH_WORD.false c.stopped.ensures
+pub returns-in_default : goal.returns-in_default
+returns-in_default c = wrong-call c.args.held c.args.count _ _ (λ four. omega arith) (λ five. omega arith) c.stopped.ensures

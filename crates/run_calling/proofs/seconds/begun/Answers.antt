@@ -1,27 +1,24 @@
 -- `begun` meets its contract. Assumes nothing.
+use mathlib.Core.Bool.{false}
+use mathlib.Core.Logic.{inl, inr}
+use mathlib.Core.Path.{◌≡◌, refl, sym, ap, ◌∙◌}
+use Rattle.run_phases.specs.declared.state.Phase.{Phase}
 use Rattle.run_calling.proofs.SecondsLaws.{refusal-begun, run-begun, begun-stops, is_begin}
-use Rattle.run_calling.specs.Calls.{Begun}
-use Rattle.run_stages.specs.declared.state.Machine.{Machine}
-use mathlib.Core.Path.{sym, ap, ◌∙◌, subst}
 use Rattle.run_calling.proofs.seconds.begun.Goals as goal
 
 pub returns-in-Refusal : goal.returns-in-Refusal
-returns-in-Refusal c = refusal-begun c.args.held c.args.asked.now c.args.out.now _ c.finish.result c.begin-simulation.result _ _ c.finish.ensures c.begin-simulation.ensures (sym c.phase_of-phase.ensures ∙ c.in-Refusal.is) c.refused.ensures
+returns-in-Refusal c = refusal-begun c.args.held c.args.asked.now c.args.out.now _ c.finish.result c.begin-simulation.result _ _ c.finish.ensures c.begin-simulation.ensures (sym c.phase_of.ensures ∙ c.in-Refusal.is) c.refused.ensures
 
 pub returns-in-Heading : goal.returns-in-Heading
-returns-in-Heading c = subst (λ (m : Machine). Begun c.args.held c.args.asked.now c.args.out.now m c.args.out.now) (sym c.working.ensures) (run-begun c.args.held c.args.asked.now c.args.out.now c.args.out.now c.finish.result c.begin-simulation.result c.finish.ensures c.begin-simulation.ensures (sym c.phase_of-phase.ensures ∙ c.in-Heading.is))
+returns-in-Heading c = run-begun c.args.held c.args.asked.now c.args.out.now c.args.out.now c.finish.result c.begin-simulation.result c.finish.ensures c.begin-simulation.ensures (sym c.phase_of.ensures ∙ c.in-Heading.is)
 
 pub returns-in-Seconds : goal.returns-in-Seconds
-returns-in-Seconds c = begun-stops c.args.held c.args.asked.now c.args.out.now c.args.out.now c.finish.result c.begin-simulation.result _ _ c.begin-simulation.ensures (ap is_begin (sym c.phase_of-phase.ensures ∙ c.in-Seconds.is)) c.stopped.ensures
-
-pub returns-in-SetHeading : goal.returns-in-SetHeading
-returns-in-SetHeading c = begun-stops c.args.held c.args.asked.now c.args.out.now c.args.out.now c.finish.result c.begin-simulation.result _ _ c.begin-simulation.ensures (ap is_begin (sym c.phase_of-phase.ensures ∙ c.in-SetHeading.is)) c.stopped-in-SetHeading.ensures
-
-pub returns-in-SetLine : goal.returns-in-SetLine
-returns-in-SetLine c = begun-stops c.args.held c.args.asked.now c.args.out.now c.args.out.now c.finish.result c.begin-simulation.result _ _ c.begin-simulation.ensures (ap is_begin (sym c.phase_of-phase.ensures ∙ c.in-SetLine.is)) c.stopped-in-SetLine.ensures
-
-pub returns-in-Over : goal.returns-in-Over
-returns-in-Over c = begun-stops c.args.held c.args.asked.now c.args.out.now c.args.out.now c.finish.result c.begin-simulation.result _ _ c.begin-simulation.ensures (ap is_begin (sym c.phase_of-phase.ensures ∙ c.in-Over.is)) c.stopped-in-Over.ensures
-
-pub returns-in-Broken : goal.returns-in-Broken
-returns-in-Broken c = begun-stops c.args.held c.args.asked.now c.args.out.now c.args.out.now c.finish.result c.begin-simulation.result _ _ c.begin-simulation.ensures (ap is_begin (sym c.phase_of-phase.ensures ∙ c.in-Broken.is)) c.stopped-in-Broken.ensures
+returns-in-Seconds c =
+    let stop = λ (p : Phase) (is : c.phase_of.result ≡ p) (un : is_begin p ≡ false). begun-stops c.args.held c.args.asked.now c.args.out.now c.args.out.now c.finish.result c.begin-simulation.result _ _ c.begin-simulation.ensures (ap is_begin (sym c.phase_of.ensures ∙ is) ∙ un) c.stopped.ensures in
+    elim c.in-Seconds.is [
+      | inl is ↦ stop Phase.Seconds is refl
+      | inr (inl is) ↦ stop Phase.SetHeading is refl
+      | inr (inr (inl is)) ↦ stop (Phase.SetLine is.0) is.1 refl
+      | inr (inr (inr (inl is))) ↦ stop Phase.Over is refl
+      | inr (inr (inr (inr is))) ↦ stop Phase.Broken is refl
+    ]

@@ -1,7 +1,7 @@
 -- `step` meets its contract. Assumes nothing.
 use Rattle.run_machine.proofs.StepLaws.{to-second-pass, answer-steps, at_stage}
 use Rattle.run_stages.specs.StageSteps.{StepsFrom}
-use Rattle.run_stages.specs.declared.state.Machine.{Machine}
+use Rattle.run_stages.specs.Stages.{Machine}
 use Rattle.run_stages.specs.declared.state.Stage.{Stage}
 use Rattle.run_stages.proofs.StopLaws.{stop-steps}
 use mathlib.Core.Path.{refl, sym, subst}
