@@ -28,8 +28,8 @@ def declared_logic(text):
 
 
 def declared_code(text):
-    """what a file of code declares: functions, types, constants, modules, fields and cases"""
-    items = re.findall(r'\b(?:fn|struct|enum|const|mod) (\w+)', text)
+    """what a file of code declares: functions, types, constants, modules, fields and cases, and the types that it has an `impl` of"""
+    items = re.findall(r'\b(?:fn|struct|enum|const|mod) (\w+)', text) + re.findall(r'^impl\b.* for (\w+)', text, re.M)
     return set(items) | set(re.findall(r'^\s+(?:pub(?:\(crate\))? )?(\w+)(?:\(|:|,)', text, re.M))
 
 
