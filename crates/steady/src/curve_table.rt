@@ -8,7 +8,7 @@ ghost use Rattle.steady.specs.CurveTable.{InRule, line_or_none, lines_of, Tabled
 use gensets::fuel::per_hour;
 use gensets::line::{Line, line_of, rate_on};
 use rules::station::GenSet;
-use set_moves::commands::has_set;
+use words::masks::places_of;
 
 // What a steady second reads of a set On.
 #[derive(Clone, Copy)]
@@ -61,12 +61,10 @@ pub(crate) fn tables_of(sets: [GenSet; 8], mask: u32) -> [SetTable; 8]
     };
     let mut tables = [none; 8];
     let mut sum: u64 = 0;
-    for i in 0..8 {
-        if has_set(mask, i) {
-            sum += sets[i].rating as u64;
-            let lines = lines_of(sets[i]);
-            tables[i] = SetTable { sum, lines };
-        }
+    for place in places_of(mask) {
+        sum += sets[place].rating as u64;
+        let lines = lines_of(sets[place]);
+        tables[place] = SetTable { sum, lines };
     }
     tables
 }
