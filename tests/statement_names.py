@@ -72,7 +72,7 @@ def anywhere(found, name):
 
 
 def of_path(found, parts):
-    """crate::module::name, crate::module, crate::name, crate::module::Type::method or Type::method"""
+    """crate::module::name, crate::module, crate::name, crate::module::Type::method, crate::Type::method or Type::method"""
     crate, *rest = parts
     if crate[0].isupper() and len(rest) == 1:
         return any(crate in declared and rest[0] in declared for files in list(found.code.values()) for declared in files.values())
@@ -80,8 +80,8 @@ def of_path(found, parts):
         return crate in OTHER_WORDS
     if not is_crate(found, crate):
         return False
-    if len(rest) == 3:
-        return all(name in found.code[crate][rest[0]] for name in rest[1:])
+    if len(rest) == 3 or (len(rest) == 2 and rest[0][0].isupper()):
+        return all(name in found.code[crate][rest[0] if len(rest) == 3 else 'lib'] for name in rest[-2:])
     module, name = (rest if len(rest) == 2 else ('lib', rest[0]))
     if len(rest) == 1 and rest[0] in found.code[crate]:
         return True
