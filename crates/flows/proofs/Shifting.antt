@@ -1,5 +1,5 @@
--- The decided amounts move by one place, as a turn of the first of them moves them, and a delay beyond their number moves them all. Assumes nothing.
-use Prim.Native.Nat.{ℕ, zero, suc, ◌-◌, ◌≤◌, min, max}
+-- The decided amounts move by one place, as a copy within them moves them, and a delay beyond their number moves them all. Assumes nothing.
+use Prim.Native.Nat.{ℕ, zero, suc, ◌+◌, ◌-◌, ◌≤◌, min, max}
 use mathlib.Core.Path.{◌≡◌, refl, sym, ap, ◌∙◌}
 use mathlib.Core.List.{List, [], ◌∷◌, ◌++◌}
 use native.Mathlib.Omega.{arith}
@@ -7,23 +7,30 @@ use native.Mathlib.Decide.{dec_le}
 use lib.ListN.{length, take, drop, set, length-drop, drop_of_length-le}
 use lib.Seq.{take_all}
 use Rattle.std.proofs.Common.{length-take-le}
+use Rattle.std.specs.List.{copy_within}
 use Rattle.rules.specs.Flows.{decided_after}
 
--- what stands between the two parts gives way to the new amount
-new-between : (front rest : List ℕ) (oldest new : ℕ) → set ((front ++ (oldest ∷ [])) ++ rest) (length front) new ≡ front ++ (new ∷ rest)
-new-between [] rest oldest new = refl
-new-between (x ∷ front) rest oldest new = ap (λ (l : List ℕ). x ∷ l) (new-between front rest oldest new)
+-- what stands behind a part gives way to the new amount
+new-behind : (front rest : List ℕ) (new : ℕ) → set (front ++ rest) (length front) new ≡ front ++ set rest 0 new
+new-behind [] rest new = refl
+new-behind (x ∷ front) rest new = ap (λ (l : List ℕ). x ∷ l) (new-behind front rest new)
 
--- the first of them turned by one place, and the new one put where the oldest came to stand
-pub turned : (count : ℕ) (amounts first : List ℕ) (new : ℕ) → 1 ≤ count → count ≤ length amounts → first ≡ drop 1 (take count amounts) ++ take 1 (take count amounts)
-    → set (first ++ drop count amounts) (count - 1) new ≡ decided_after count amounts new
+-- the last of those that moved stands twice, and its second place is the new one's
+new-last : (n x : ℕ) (amounts : List ℕ) (new : ℕ) → n ≤ length amounts → set (drop n (x ∷ amounts)) 0 new ≡ new ∷ drop n amounts
+new-last zero x amounts new h = refl
+new-last (suc n) x [] new h = absurd (omega arith)
+new-last (suc n) x (y ∷ amounts) new h = new-last n y amounts new (omega arith)
+
+-- the first of them moved by one place, and the new one put last among them
+pub moved : (count : ℕ) (amounts : List ℕ) (new : ℕ) → 1 ≤ count → count ≤ length amounts → set (copy_within amounts 1 count 0) (count - 1) new ≡ decided_after count amounts new
 unfolding decided_after
-turned zero amounts first new p h e = absurd (omega arith)
-turned (suc n) [] first new p h e = absurd (omega arith)
-turned (suc n) (x ∷ amounts) first new p h e =
-    let size : length (take n amounts) ≡ n = length-take-le n amounts (omega arith) in
+moved zero amounts new p h = absurd (omega arith)
+moved (suc n) [] new p h = absurd (omega arith)
+moved (suc n) (x ∷ amounts) new p h =
     let last : suc n - 1 ≡ n = omega arith in
-    rw (e, last) (rw size at (new-between (take n amounts) (drop n amounts) x new))
+    let none : 0 + n ≡ n = omega arith in
+    let size : length (take n amounts) ≡ n = length-take-le n amounts (omega arith) in
+    rw (last, none, ← new-last n x amounts new (omega arith)) (rw size at (new-behind (take n amounts) (drop n (x ∷ amounts)) new))
 
 -- from as many seconds as there are amounts on, all of them move
 all-move : (count : ℕ) (amounts : List ℕ) (new : ℕ) → length amounts ≤ count → decided_after count amounts new ≡ drop 1 amounts ++ (new ∷ [])

@@ -37,7 +37,7 @@ fn move_amounts(count: usize, new: u32, after: &mut [u32])
     requires { (1 ≤ count) × (count ≤ length after.old) }
     ensures { after.new ≡ decided_after count after.old new }
 {
-    after[..count].rotate_left(1);
+    after.copy_within(1..count, 0);
     after[count - 1] = new;
 }
 

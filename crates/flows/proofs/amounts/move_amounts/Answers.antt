@@ -1,6 +1,6 @@
--- `amounts::move_amounts` meets its contract: the first amounts turn by one place. Assumes nothing.
-use Rattle.flows.proofs.Shifting.{turned}
+-- `amounts::move_amounts` meets its contract: the first amounts move by one place. Assumes nothing.
+use Rattle.flows.proofs.Shifting.{moved}
 use Rattle.flows.proofs.amounts.move_amounts.Goals as goal
 
 pub returns : goal.returns
-returns c = turned _ _ _ _ c.requires.0 c.requires.1 c.rotate_left.ensures.after
+returns c = rw c.copy_within.ensures.after (moved _ _ _ c.requires.0 c.requires.1)
