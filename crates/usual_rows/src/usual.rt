@@ -145,7 +145,9 @@ fn powers_after(text: &[u8], comma: usize) -> Option<PowersRead>
     let mut watts = [0; 3];
     let mut end = comma;
     for watt in watts.iter_mut() {
-        let power = power_after(text, end)?;
+        let Some(power) = power_after(text, end) else {
+            return None;
+        };
         *watt = power.number;
         end = power.end;
     }
@@ -198,7 +200,9 @@ pub fn usual_row(columns: Columns, text: &[u8], at: usize) -> Option<UsualRow>
     if !has_room(text.len(), at) || !powers_named(columns) {
         return None;
     }
-    let time = time_from(text, at)?;
+    let Some(time) = time_from(text, at) else {
+        return None;
+    };
     let cells = powers_after(text, time.end)?;
     let next = end_from(text, cells.end)?;
     let sample = Sample {

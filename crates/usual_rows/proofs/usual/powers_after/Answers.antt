@@ -18,9 +18,9 @@ pub loop-watt-preserved : goal.loop-watt-preserved
 loop-watt-preserved c =
     let l = c.loop-watt in
     let a = c.args in
-    let read = c.in_ok-power.power in
+    let read = c.in-Some.power in
     let h : l.watt-index < length l.watt-items = omega (arith, l.invariant.0) in
-    let power : PowerTaken a.text.now l.end read.end read.number = rw c.in_ok-power.was at c.power_after.ensures in
+    let power : PowerTaken a.text.now l.end read.end read.number = rw c.in-Some.is at c.power_after.ensures in
     (simp length-set l.invariant.0, power-more l.watt-index a.text.now a.comma l.end l.watt-items read.end read.number h l.invariant.1 power)
 
 pub returns : goal.returns
