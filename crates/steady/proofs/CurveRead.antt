@@ -1,7 +1,7 @@
 -- A set's lines read from the table: how many of those after the first have begun is the lower point's place, and that line gives the
 -- rate. Assumes nothing.
 use Rattle.std.specs.Prelude.{if◌then◌else◌}
-use mir.Val.{bool_byte as from_bool}
+use mir.Val.{bool_byte}
 use Prim.Native.Nat.{ℕ, zero, suc, ◌+◌, ◌-◌, ◌*◌, ◌≤◌, ◌<◌}
 use mathlib.Core.Path.{◌≡◌, refl, ap, ◌∙◌}
 use mathlib.Core.Bool.{Bool, true, false}
@@ -28,7 +28,7 @@ use Rattle.steady.specs.CurveTable.{InRule, line_or_none, lines_of}
 
 -- 1 where a line begins at or below a power x 1000
 abbrev pub begun : ℕ → ℕ → ℕ
-begun start at = from_bool (leb start at)
+begun start at = bool_byte (leb start at)
 
 begun-one : (start at : ℕ) → start ≤ at → begun start at ≡ 1
 begun-one start at h = rw (le-leb start at h)
@@ -108,8 +108,8 @@ module _ (g : GenSet) (right : InRule g) (power : ℕ) (most : power ≤ g.ratin
     begun_three =
         begun (get_or lines 1 d).start (power * 1000) + begun (get_or lines 2 d).start (power * 1000) + begun (get_or lines 3 d).start (power * 1000)
 
-    lower : begun_three ≡ lower_point g power
-    lower =
+    pub line-counted : begun_three ≡ lower_point g power
+    line-counted =
         rw (stands 1 (omega arith), stands 2 (omega arith), stands 3 (omega arith)) (counted-lower g power right (λ j. (line_or_none g j).start) begins beyond)
 
     -- the rate on the line of the lower point is the set's
@@ -130,4 +130,4 @@ module _ (g : GenSet) (right : InRule g) (power : ℕ) (most : power ≤ g.ratin
           (same, rw same (rate-most g right.numbers right.pairs power most))
 
     pub rate-read : (per_hour (rate_on (get_or lines begun_three d) (power * 1000)) ≡ fuel_rate g power) × (per_hour (rate_on (get_or lines begun_three d) (power * 1000)) ≤ 15_000_000_000)
-    rate-read = rate_at-it begun_three lower
+    rate-read = rate_at-it begun_three line-counted

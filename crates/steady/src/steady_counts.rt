@@ -1,6 +1,6 @@
 // Steady seconds: no set changes its mode, so that only the counts of the sets On and the timed modes' counts move. The sets' states
 // stand as they were, and what is added to the sets On since stands beside them.
-ghost use Rattle.std.specs.Prelude.{◌≡◌, ◌<◌};
+ghost use Rattle.std.specs.Prelude.{◌≡◌};
 ghost use Rattle.set_moves.specs.Sized.{Small};
 ghost use Rattle.steady.specs.CurveTable.{Tabled};
 ghost use Rattle.steady.specs.Steady.{ran_for, since_steady, added_after, Addable, Makeable};
