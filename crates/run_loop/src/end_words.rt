@@ -1,27 +1,24 @@
 // What is told at the end: to whoever reads standard error in words, and to bin/run, since a program has no exit status of its own.
 use crate::refusal_line::say_refusal;
-use crate::turns::Ended;
 use exchange::action::{Why, Word};
 use files::source::Program;
 use files::why::say_why;
+use judging::state::SAMPLES;
 use perform::Files;
+use perform::turns::Ended;
 use plain_words::texts::say;
+use run_machine::state::Machine;
 use std::fs;
 use std::io::Write;
 use std::os::unix::fs::FileTypeExt;
-
-// The place of the sample file among the arguments.
-const SAMPLES: usize = 2;
 
 // The descriptor that bin/run reads the word from, by its path.
 const TOLD_ON: &str = "/dev/fd/3";
 
 // A read that fails once rows were written leaves rows without an end.
 fn say_unfinished<W: Write>(err: &mut W, why: Why, working: bool) {
-    if let Why::Unread(place) = why {
-        if working & (place == SAMPLES) {
-            say(err, b"run: the rows are not to be used.\n");
-        }
+    if working && matches!(why, Why::Unread(SAMPLES)) {
+        say(err, b"run: the rows are not to be used.\n");
     }
 }
 
@@ -40,10 +37,7 @@ fn say_word<W: Write>(err: &mut W, word: Word, working: bool, files: &Files, pat
 
 // Whether the descriptor is a pipe, as that of bin/run is. By its path a file would be opened anew, and a caller's own written over.
 fn is_pipe(rt: &HostRuntime) -> bool {
-    match fs::metadata(rt, TOLD_ON) {
-        Ok(found) => found.file_type().is_fifo(),
-        Err(_) => false,
-    }
+    fs::metadata(rt, TOLD_ON).is_ok_and(|found| found.file_type().is_fifo())
 }
 
 // Where the descriptor is no pipe, nobody is told. It is opened for both ways, since opening a named pipe to write alone waits for a reader,
@@ -70,13 +64,9 @@ fn word_of(word: Word) -> &'static [u8] {
 }
 
 // The word for bin/run comes last, once the files are closed: one of them could have the descriptor's number.
-pub(crate) fn say_end(rt: &HostRuntime, ended: Ended, paths: &[u8]) {
-    let Ended {
-        word,
-        machine,
-        files,
-    } = ended;
-    let held = machine.held;
+pub(crate) fn say_end(rt: &HostRuntime, ended: Ended<Machine>, paths: &[u8]) {
+    let Ended { word, state, files } = ended;
+    let held = state.held;
     say_word(&mut rt.stderr(), word, held.working, &files, paths);
     drop(files);
     if held.told {

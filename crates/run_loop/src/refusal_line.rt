@@ -6,18 +6,18 @@ use refusal_words::titles::say_title;
 use rules::answers::Refusal;
 use std::io::Write;
 
-fn say_check<W: Write>(err: &mut W) {
-    say(
-        err,
-        b"run: bin/check STATION SAMPLES says what stands there and what would be right.\n",
-    );
-}
-
 // `check` is handed both files, and no seconds.
 fn say_more<W: Write>(err: &mut W, place: Place) {
     match place {
-        Place::StationFile | Place::Entry(_) | Place::Set(_) => say_check(err),
-        Place::Configuration(_) | Place::SampleFile | Place::Line(_) => say_check(err),
+        Place::StationFile
+        | Place::Entry(_)
+        | Place::Set(_)
+        | Place::Configuration(_)
+        | Place::SampleFile
+        | Place::Line(_) => say(
+            err,
+            b"run: bin/check STATION SAMPLES says what stands there and what would be right.\n",
+        ),
         Place::Seconds | Place::Call => {}
     }
 }
