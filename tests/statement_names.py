@@ -11,7 +11,7 @@ import collections, glob, os, re, sys
 ROOT = os.path.dirname(os.path.dirname(os.path.abspath(__file__)))
 NAME = r"[^\W\d][\w'′₀-₉-]*"
 # Words of the languages, of the toolchain's library and of the formats, which are no names of ours.
-OTHER_WORDS = set('requires ensures must-fail Pre Float min max count_ones t P1 P2 P12 Ok Err Some None'.split())
+OTHER_WORDS = set('requires ensures must-fail Pre Float min max count_ones t P1 P2 P12 Ok Err Some None Result Option'.split())
 
 Sources = collections.namedtuple('Sources', 'logic code edits others root')
 
