@@ -1,5 +1,5 @@
 -- Turn after turn of a call. Assumes nothing.
-use Prim.Native.Nat.{ℕ, ◌+◌, ◌-◌, ◌≤◌, ◌<◌, min}
+use Prim.Native.Nat.{ℕ, ◌+◌, ◌-◌, ◌*◌, ◌≤◌, ◌<◌, min}
 use mathlib.Core.Path.{◌≡◌, refl, sym, ap, ◌∙◌, subst}
 use mathlib.Core.Bool.{Bool, true, false}
 use mathlib.Core.List.{List, [], ◌++◌, append_assoc}
@@ -141,3 +141,17 @@ module _ (s : Simulation) (chunk : List ℕ) (at : ℕ) (ended : Bool) (out₀ :
           some = λ h f. some-on r.wants m.wants f;
           stopped = stops r.wants m.wants;
         }
+
+    -- each turn that goes on comes nearer to the end, and one that does not is the last
+    lighter : (w : Wants) (b : Bool) → b ≡ goes_on w → Ended w t chunk ended out r → 2 * weight r.simulation + count b < 2 * weight t.simulation + 1
+    lighter Wants.Further true e h = let z = h in omega (arith, z)
+    lighter Wants.Further false e h = never e
+    lighter Wants.Input true e h = never (sym e)
+    lighter Wants.Input false e h = omega (arith, m.less)
+    lighter Wants.Room true e h = never (sym e)
+    lighter Wants.Room false e h = omega (arith, m.less)
+    lighter Wants.Nothing true e h = never (sym e)
+    lighter Wants.Nothing false e h = omega (arith, m.less)
+
+    pub turns-fall : (b : Bool) → b ≡ goes_on r.wants → 2 * weight r.simulation + count b < 2 * weight t.simulation + 1
+    turns-fall b e = lighter r.wants b e m.wants
