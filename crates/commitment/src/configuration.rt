@@ -148,8 +148,10 @@ pub fn chosen(
 ) -> usize
     ensures { result ≡ chosen_of st caps.now barred held called since second }
 {
+    // the table alone: by the address of its place in `st` all of the station would be copied
+    let configs = st.configs;
     let choices = Choices {
-        configs: &st.configs,
+        configs: &configs,
         caps,
         barred,
     };

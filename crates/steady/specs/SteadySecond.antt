@@ -22,7 +22,6 @@ use Rattle.steady.specs.declared.steady_step.Steady.{Steady}
 use Rattle.steady.specs.declared.steady_step.Standing.{Standing}
 use Rattle.steady.specs.declared.steady_step.AfterSecond.{AfterSecond}
 use Rattle.steady.specs.declared.steady_seconds.AfterSeconds.{AfterSeconds}
-use Rattle.steady.specs.CurveTable.{Tabled}
 use Rattle.steady.specs.NextEvent.{NoEvent, unmoved_all}
 use Rattle.steady.specs.Steady.{since_steady}
 
@@ -32,7 +31,6 @@ pub record Kept (st : Station) (q : Steady) : Type 0 where
   pub is-cap : q.cap ≡ capacity st.sets q.on
   pub is-floor : q.floor ≡ floor_load st q.on
   pub is-barred : q.barred ≡ barred_mask st.sets q.states
-  pub is-tabled : Tabled st.sets q.on q.tables
 
 -- the record where steady seconds stand
 abbrev pub run_at : Steady → Standing → List Added → List ℕ → Run

@@ -55,9 +55,15 @@ fn lines_of(genset: GenSet) -> [Line; 4]
 pub(crate) fn tables_of(sets: [GenSet; 8], mask: u32) -> [SetTable; 8]
     ensures { Tabled sets mask result }
 {
+    let zeros = Line {
+        start: 0,
+        width: 0,
+        first: 0,
+        second: 0,
+    };
     let none = SetTable {
         sum: 0,
-        lines: [NO_LINE; 4],
+        lines: [zeros; 4],
     };
     let mut tables = [none; 8];
     let mut sum: u64 = 0;

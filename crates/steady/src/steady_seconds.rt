@@ -43,7 +43,6 @@ pub(crate) fn kept(st: Station, states: [SetState; 8], called: u32) -> Steady
     ensures { Kept st result × (result.states ≡ states) × (result.called ≡ called) }
 {
     let on = on_mask(states);
-    let tables = tables_of(st.sets, on);
     Steady {
         on,
         called,
@@ -51,7 +50,6 @@ pub(crate) fn kept(st: Station, states: [SetState; 8], called: u32) -> Steady
         floor: floor_load(st, on),
         barred: barred_mask(st.sets, states),
         states,
-        tables,
     }
 }
 
@@ -67,9 +65,12 @@ pub(crate) fn steady_seconds(
     requires { Workable st steady.now.states moment caps.now inputs.now decided.old rows.old × Kept st steady.now × (unmoved_all steady.now.states steady.now.called ≡ true) × (mask_called st.configs moment.called ≡ steady.now.called) × NoEvent st.sets steady.now.states (length (inputs_each inputs.now)) }
     ensures { GoesOn st steady.now.states moment inputs.now decided.old rows.old result decided.new rows.new }
 {
+    let tables = tables_of(st.sets, steady.on);
     let none = Added { energy: 0, fuel: 0 };
     let mut added = [none; 8];
-    let walked = steady_walk(st, caps, steady, moment, inputs, decided, &mut added, rows);
+    let walked = steady_walk(
+        st, caps, steady, &tables, moment, inputs, decided, &mut added, rows,
+    );
     let ran = made(steady.states, steady.on, walked.ran as u32, &added);
     let states = command_all(st.sets, ran, mask_called(st.configs, walked.moment.called));
     AfterSeconds {

@@ -62,6 +62,7 @@ steady_walk-walked-requires c =
         sixty = pre.0.sixty;
       },
       pre.0.rated,
+      c.tables_of-tables.ensures,
     )
 
 pub overflow_cast-walked : goal.overflow_cast-walked

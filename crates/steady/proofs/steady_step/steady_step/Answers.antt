@@ -11,7 +11,7 @@ tables c = record { sets-length = search rules; configs-length = search rules }
 
 pub count_steady-requires : goal.count_steady-requires
 count_steady-requires c =
-    (addable c.args.st (tables (goal.at.count_steady-requires c).Start) c.args.steady.now c.args.standing c.requires.0 c.requires.1 c.args.added.now c.args.decided.now c.args.inputs c.requires.2 c.args.caps.now c.requires.3 c.requires.4 _ c.oldest.ensures _ c.meet_load-met.ensures, c.requires.0.is-tabled)
+    (addable c.args.st (tables (goal.at.count_steady-requires c).Start) c.args.steady.now c.args.standing c.requires.0 c.requires.1 c.args.added.now c.args.decided.now c.args.inputs c.requires.2 c.args.caps.now c.requires.3 c.requires.4 _ c.oldest.ensures _ c.meet_load-met.ensures, c.requires.5)
 
 pub shape_of-decided : goal.shape_of-decided
 shape_of-decided c = c.decide.auto.amounts

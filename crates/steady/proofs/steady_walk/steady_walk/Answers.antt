@@ -135,7 +135,7 @@ steady_step-gone-requires c =
     let a = c.args in
     let r : Run = run_at a.steady.now (record { moment = c.loop-ran.moment; ran = c.loop-ran.ran }) c.loop-ran.added c.loop-ran.decided in
     let calm : NoEvent a.st.sets a.steady.now.states (c.loop-ran.ran + 1) = fewer _ _ _ _ pre.0.no-event (omega (arith, each-length a.inputs.now)) in
-    (pre.0.kept, calm, subst (Admitted a.st r) (sym (asked a.inputs.now c.loop-ran.ran t c.first_inputs-x.ensures)) (admitted a.inputs.now c.loop-ran.ran t inv.0.admits), pre.1, inv.2)
+    (pre.0.kept, calm, subst (Admitted a.st r) (sym (asked a.inputs.now c.loop-ran.ran t c.first_inputs-x.ensures)) (admitted a.inputs.now c.loop-ran.ran t inv.0.admits), pre.1, inv.2, pre.2)
 
 pub returns-then-mask_called-steady : goal.returns-then-mask_called-steady
 returns-then-mask_called-steady c = walks (goal.at.returns-then-mask_called-steady c).After-put_row_numbers
