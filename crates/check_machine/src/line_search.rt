@@ -2,14 +2,13 @@
 ghost use Rattle.std.specs.Prelude.{◌≡◌, ◌≤◌, take};
 
 // One byte more than a line may have: who has that many needs no more to know that it is too long.
-const MOST_HELD: usize = 513;
+pub const MOST_HELD: usize = 513;
 
 // The first bytes of a line.
 #[derive(Clone, Copy)]
 pub struct Line {
-    text: [u8; MOST_HELD],
-    len: usize,
-    ghost within: { len ≤ 513 },
+    pub text: [u8; MOST_HELD],
+    pub len: usize,
 }
 
 // How far the search for a line has come.
@@ -46,7 +45,10 @@ impl Line {
     pub fn bytes(&self) -> &[u8]
         ensures { result.now ≡ take self.now.len self.now.text }
     {
-        &self.text[..self.len]
+        match self.text.get(..self.len) {
+            Some(part) => part,
+            None => &self.text,
+        }
     }
 
     // "one CR just before it is dropped", of a line that has its LF.
@@ -61,7 +63,7 @@ impl Line {
     fn continued(self, chunk: &[u8]) -> Sought {
         let Line { mut text, mut len } = self;
         for byte in chunk {
-            if len == MOST_HELD {
+            if MOST_HELD <= len {
                 return Sought::Found(Line { text, len });
             }
             if *byte == b'\n' {

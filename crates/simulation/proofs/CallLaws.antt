@@ -18,7 +18,7 @@ use Rattle.run_phases.specs.declared.state.Wants.{Wants}
 use Rattle.run_texts.specs.Text.{to_print}
 use Rattle.run_texts.specs.Coming.{Comes, ComesOn, weight, is_before_sets}
 use Rattle.simulation.specs.Turns.{Ended, Moved}
-use Rattle.simulation.specs.Calls.{goes_on, Stopped}
+use Rattle.simulation.specs.Calls.{goes_on, Stopped, Called}
 
 -- the test of what a turn wants
 pub further-on : (w : Wants) → eqb (tag_of the_type w) 0 ≡ true → goes_on w ≡ true
@@ -155,3 +155,25 @@ module _ (s : Simulation) (chunk : List ℕ) (at : ℕ) (ended : Bool) (out₀ :
 
     pub turns-fall : (b : Bool) → b ≡ goes_on r.wants → 2 * weight r.simulation + count b < 2 * weight t.simulation + 1
     turns-fall b e = lighter r.wants b e m.wants
+
+  ends-stopped : (w : Wants) (r : Turn) → goes_on w ≡ false → StoppedYet w r → Stopped w s chunk ended out₀ r
+  ends-stopped Wants.Further r f h = never (sym f)
+  ends-stopped Wants.Input r f h = h
+  ends-stopped Wants.Room r f h = h
+  ends-stopped Wants.Nothing r f h = h
+
+  pub called : (out : List ℕ) (t : Turn) → Going out t → goes_on t.wants ≡ false → Called s chunk at ended out₀ t out
+  called out t g f =
+      record {
+        worked = g.worked;
+        left_is = g.left_is;
+        text = g.text;
+        inputs = g.inputs;
+        within = g.within;
+        fits = g.fits;
+        kept = g.kept;
+        less = g.less;
+        small = g.small;
+        early = g.early;
+        wants = ends-stopped t.wants t f g.stopped;
+      }
