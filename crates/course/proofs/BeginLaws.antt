@@ -6,7 +6,7 @@ use mathlib.Core.List.{List}
 use native.Mathlib.Omega.{arith}
 use lib.Dec.{leb}
 use borrow.Author.Tests.{leb-true}
-use Rattle.std.specs.Prelude.{Result, Ok, Err, IsOkAnd}
+use Rattle.std.specs.Prelude.{Result, Err, IsOkAnd}
 use Rattle.rules.specs.declared.answers.Refusal.{Refusal}
 use Rattle.rules.specs.declared.run.Run.{Run}
 use Rattle.rules.specs.declared.station.Station.{Station}
