@@ -1,5 +1,5 @@
 // A line of the sample file by its number, from a second pass, for the message about it.
-ghost use Rattle.std.specs.Prelude.{◌≡◌, ◌≤◌, take};
+ghost use Rattle.std.specs.Prelude.{◌≡◌, take};
 
 // One byte more than a line may have: who has that many needs no more to know that it is too long.
 pub const MOST_HELD: usize = 513;
