@@ -43,9 +43,8 @@ use Rattle.rules.specs.declared.station.Station.{Station}
 use Rattle.rules.specs.declared.run.Mode.{Mode}
 use Rattle.rules.specs.declared.run.Mode.TheVariants.{Off, Warming, On, Cooling, Service}
 use Rattle.rules.specs.declared.run.SetState.{SetState}
-use Rattle.rules.specs.declared.run.Held.{Held}
-use Rattle.rules.specs.declared.run.Held.TheVariants.{Absent, At}
-use Rattle.rules.specs.declared.run.Totals.{Totals}
+use Rattle.std.specs.Prelude.{Option, Some, None}
+use Rattle.rules.specs.Quantities.{Totals}
 use Rattle.rules.specs.declared.run.Run.{Run}
 use Rattle.rules.specs.declared.run.Step.{Step}
 use Rattle.rules.specs.declared.run.Inputs.{Inputs}
@@ -67,9 +66,9 @@ mode_numbers (Service n) = 4 ∷ n ∷ []
 unfoldable pub bits_of : Float → ℕ
 bits_of x = to_bits binary64 x
 
-unfoldable pub held_numbers : Held → List ℕ
-held_numbers Absent = 0 ∷ 0 ∷ []
-held_numbers (At x) = 1 ∷ bits_of x ∷ []
+unfoldable pub held_numbers : Option Float → List ℕ
+held_numbers None = 0 ∷ 0 ∷ []
+held_numbers (Some x) = 1 ∷ bits_of x ∷ []
 
 unfoldable pub state_numbers : SetState → List ℕ
 state_numbers s = mode_numbers s.mode ++ (s.run ∷ s.clock ∷ s.starts ∷ s.stops ∷ s.energy ∷ s.fuel ∷ [])
@@ -170,7 +169,7 @@ def run_term(n):
         states.append(record('mode run clock starts stops energy fuel', [m] + v))
     totals = record('offered load shed solar charge spill give diesel unserved', n.take(9))
     decided = nats(n.take(60))
-    held = '(At (of_bits binary64 %d))' % bits if tag else 'Absent'
+    held = '(Some (of_bits binary64 %d))' % bits if tag else 'None'
     return record('done since called store setpoint sets decided totals', [done, since, called, store, held, lists(states), decided, totals])
 
 
@@ -199,7 +198,7 @@ use lib.ListN.{replicate}
 use Rattle.compared.specs.Answered
 use Rattle.compared.specs.Answered.{amount, call_gives}
 use Rattle.rules.specs.declared.run.Mode.TheVariants.{Off, Warming, On, Cooling, Service}
-use Rattle.rules.specs.declared.run.Held.TheVariants.{Absent, At}
+use Rattle.std.specs.Prelude.{Some, None}
 use Rattle.rules.specs.Bytes.{bytes_of}
 use Rattle.rules.specs.Answers.{refusal}
 use Rattle.rules.specs.Sizing.{station_check, sample_check, share_asked, rate_asked}
