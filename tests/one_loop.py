@@ -2,8 +2,9 @@
 """one_loop.py: every program runs its machine in the one loop (`perform::turns::run`).
 
 It fails where another file of a library or a program calls `perform`, where the loop calls anything but the program's decisions and
-`perform`, where a machine's crate is driven by no program or by two, and where a program's decisions are said by other definitions than
-its machine's own. Before the sources it is handed small ones that are wrong, each of which it must tell.
+`perform`, writes to a part of something or brings in more than it may, where a machine's crate is driven by no program or by two, and
+where a program's decisions are said by other definitions than its machine's own. Before the sources it is handed small ones that are
+wrong, each of which it must tell.
 """
 import glob, os, re, sys
 
@@ -11,8 +12,16 @@ ROOT = os.path.dirname(os.path.dirname(os.path.abspath(__file__)))
 LOOP = 'perform/src/turns.rt'
 PAGE = 'perform/src/lib.rt'
 MACHINE = re.compile(r'\b\w+_machine\b')
-# what the loop may call by a path: the program's decisions, and the names of what it is handed
+# what the loop may name by a path: the program's decisions, and the names of what it is handed
 MAY_NAME = {'P', 'R', 'Self', 'Files', 'Action', 'Why', 'Word', 'u64'}
+# what it may call or take apart by one
+MAY_CALL = {'P::begin', 'P::asked', 'P::tell', 'P::next', 'Files::new', 'Action::Stop', 'Word::Nothing'}
+# and what it may bring in; the bound of its runtime is the one place of `fs`
+MAY_USE = {'crate::{Files, perform}', 'crate::perform', 'exchange::action::{Action, Why, Word}', 'exchange::event::Event', 'std::env::Env',
+           'std::fs', 'std::fs::File', 'std::io::{IsTerminal, Write}'}
+BOUND = 'R: fs::Files + Env + Print'
+# a field, a place or parts side by side that are written to
+WRITTEN = r'(\.\w+|\]|^\s*\([^;{]*\))\s*(?:[-+*/%|&^]|<<|>>)?=(?![=>])'
 SAID = ('opens', 'asks', 'steps')
 
 
@@ -22,9 +31,9 @@ def code_of(text):
 
 
 def body_of(text):
-    """the text from its first function on, without clauses"""
-    lines = [l for l in code_of(text).split('\n') if not re.match(r'\s*(ghost |use |ensures|requires)', l)]
-    return '\n'.join(lines)
+    """the text without clauses, attributes and what it brings in"""
+    lines = [re.sub(r'^\s*(#!?\[[^\]]*\]\s*)+', '', l) for l in code_of(text).split('\n')]
+    return '\n'.join(l for l in lines if not re.match(r'\s*(ghost |ensures|requires|use [^;]*;\s*$)', l))
 
 
 def decisions_in(path, text):
@@ -44,6 +53,21 @@ def decisions_in(path, text):
     return told, set()
 
 
+def loop_faults(text):
+    """what the loop does beyond asking the decisions and calling `perform`"""
+    loop, more = body_of(text).replace(BOUND, '', 1), 'the loop calls more than the decisions and `perform`: '
+    told = []
+    if len(re.findall(r'\bperform\b', loop)) != 1:
+        told.append('the loop does not call `perform` once')
+    told += [more + name for name in sorted(set(re.findall(r'(\w+|>)\s*::', loop)) - MAY_NAME)]
+    told += [more + name for name in sorted(set(re.findall(r'\b((?:%s)::\w+)\s*\(' % '|'.join(MAY_NAME), loop)) - MAY_CALL)]
+    told += [more + name for name in sorted(set(re.findall(r'(?<![\w:.])(?<!fn )([a-z_]\w*)\s*\(', loop)) - {'perform'})]
+    told += [more + name for name in sorted(set(re.findall(r'\.\s*\w+(?=\s*\()|\b\w+!(?=\s*[(\[{])', loop)))]
+    told += ['the loop writes to a part of something: ' + name.strip() for name in sorted(set(re.findall(WRITTEN, loop, re.M)))]
+    told += ['the loop brings in more than it may: %s' % name for name in sorted(set(re.findall(r'^\s*use ([^;]+);', text, re.M)) - MAY_USE)]
+    return told
+
+
 def faults_of(files, machines):
     """what is wrong with these sources, by their paths below crates/, and these machines' crates"""
     told, drives = [], {}
@@ -54,11 +78,7 @@ def faults_of(files, machines):
         told += faults
         for machine in driven:
             drives.setdefault(machine, []).append(path)
-    loop = body_of(files.get(LOOP, ''))
-    if len(re.findall(r'\bperform\(', loop)) != 1:
-        told.append('the loop does not call `perform` once')
-    for path in sorted(set(re.findall(r'(\w+)::', loop)) - MAY_NAME - {'fs'}):
-        told.append('the loop calls more than the decisions and `perform`: %s' % path)
+    told += loop_faults(code_of(files.get(LOOP, '')))
     for machine in sorted(machines):
         if len(drives.get(machine, [])) != 1:
             told.append('%s is driven by %d programs and not one' % (machine, len(drives.get(machine, []))))
@@ -78,6 +98,22 @@ def must_tell():
         (right | {'one/src/main.rt': '// perform()\nfn main() {\n}\n'}, one, []),
         (right | {LOOP: loop.replace('perform());', 'perform()); perform();')}, one, ['the loop does not call `perform` once']),
         (right | {LOOP: loop.replace('P::next(perform());', 'libc::read(perform());')}, one, ['the loop calls more than the decisions and `perform`: libc']),
+        (right | {LOOP: loop.replace('    P::next', '    write(1);\n    P::next')}, one, ['the loop calls more than the decisions and `perform`: write']),
+        (right | {LOOP: loop.replace('fn run', 'use libc::write;\nfn run')}, one, ['the loop brings in more than it may: libc::write']),
+        (right | {LOOP: loop.replace('P::next', 'fs::write(rt, out);\n    P::next')}, one, ['the loop calls more than the decisions and `perform`: fs']),
+        (right | {LOOP: loop.replace('fn run()', 'fn run<R: fs::Files + Env + Print>()')}, one, []),
+        (right | {LOOP: loop.replace('P::next', 'rt.write_all(out);\n    P::next')}, one, ['the loop calls more than the decisions and `perform`: .write_all']),
+        (right | {LOOP: loop.replace('P::next', 'Files::rewind(files);\n    P::next')}, one,
+         ['the loop calls more than the decisions and `perform`: Files::rewind']),
+        (right | {LOOP: loop.replace('P::next', 'println!("x");\n    P::next')}, one, ['the loop calls more than the decisions and `perform`: println!']),
+        (right | {LOOP: loop.replace('P::next', 'files.performed = 1;\n    P::next')}, one, ['the loop writes to a part of something: .performed']),
+        (right | {LOOP: loop.replace('P::next', 'buf[0] = 1;\n    P::next')}, one, ['the loop writes to a part of something: ]']),
+        (right | {LOOP: loop.replace('P::next', '(files.performed, told) = (0, 0);\n    P::next')}, one, ['the loop writes to a part of something: (files.performed, told)']),
+        (right | {LOOP: loop.replace('P::next', '#[allow(unused)] perform ();\n    P::next')}, one, ['the loop does not call `perform` once']),
+        (right | {LOOP: loop.replace('P::next', 'use std::fs; libc::write(1);\n    P::next')}, one,
+         ['the loop calls more than the decisions and `perform`: libc', 'the loop calls more than the decisions and `perform`: std']),
+        (right | {LOOP: loop.replace('P::next', '<R as Print>::write_all(rt, out);\n    P::next')}, one,
+         ['the loop calls more than the decisions and `perform`: >']),
         (right, one | {'a_machine'}, ['a_machine is driven by 0 programs and not one']),
         (right | {'two/src/program.rt': program}, one, ['one_machine is driven by 2 programs and not one']),
         (right | {'one/src/program.rt': program + 'use a_machine::next;\n'}, one,

@@ -6,3 +6,4 @@ pub mod StepLaws
 pub mod Program
 pub mod Existing
 pub mod Completes
+pub mod LineLaws

@@ -1,5 +1,5 @@
 // A line of the sample file by its number, from a second pass, for the message about it.
-ghost use Rattle.std.specs.Prelude.{◌≡◌, take};
+ghost use Rattle.std.specs.Prelude.{◌≡◌, ◌≤◌, ◌-◌, IfOk, length, take, drop};
 
 // One byte more than a line may have: who has that many needs no more to know that it is too long.
 pub const MOST_HELD: usize = 513;
@@ -21,8 +21,10 @@ pub enum Sought {
     Found(Line),
 }
 
-// The chunk after so many line ends, or how many more there have to be.
-fn past_lines(lines: u64, chunk: &[u8]) -> Result<&[u8], u64> {
+// The end of the chunk that follows so many line ends, or how many more there have to be.
+fn past_lines(lines: u64, chunk: &[u8]) -> Result<&[u8], u64>
+    ensures { IfOk result (λ rest. (length rest.now ≤ length chunk.now) × (rest.now ≡ drop (length chunk.now - length rest.now) chunk.now)) }
+{
     let mut rest = chunk;
     for passed in 0..lines {
         let end = byte_search::find(rest, 0, rest.len(), b'\n');

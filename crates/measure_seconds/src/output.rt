@@ -31,17 +31,21 @@ fn fuel_of(states: [SetState; 8]) -> u64 {
         .fold(0, |fuel: u64, state| fuel.wrapping_add(state.fuel))
 }
 
+fn put_value(rt: &HostRuntime, name: &[u8], value: u64) -> io::Result<()> {
+    rt.write_all(name)?;
+    rt.print(value)
+}
+
+// Piece by piece, so that a standard output that fails on the way has what came before.
 fn write_tally(rt: &HostRuntime, tally: Tally) -> io::Result<()> {
-    println!(rt;
-        "seconds {}, bytes {}, checksum {}, done {}, store {}, called {}, fuel {}",
-        tally.seconds,
-        tally.bytes.count,
-        tally.bytes.checksum(),
-        tally.run.done,
-        tally.run.store,
-        tally.run.called,
-        fuel_of(tally.run.sets)
-    )
+    put_value(rt, b"seconds ", tally.seconds)?;
+    put_value(rt, b", bytes ", tally.bytes.count as u64)?;
+    put_value(rt, b", checksum ", tally.bytes.checksum())?;
+    put_value(rt, b", done ", tally.run.done as u64)?;
+    put_value(rt, b", store ", tally.run.store)?;
+    put_value(rt, b", called ", tally.run.called as u64)?;
+    put_value(rt, b", fuel ", fuel_of(tally.run.sets))?;
+    rt.write_all(b"\n")
 }
 
 pub(crate) fn print_tally(rt: &HostRuntime, tally: Tally) {

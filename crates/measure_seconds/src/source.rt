@@ -4,6 +4,7 @@ ghost use Rattle.std.specs.Prelude.{◌≤◌, length, IfSome};
 use exchange::action::{Action, BUFFER_END};
 use exchange::event::Event;
 use perform::{Files, SLOT, perform};
+use plain_words::heedless::Heedless;
 use plain_words::reasons::fail;
 use plain_words::shown::show_path;
 use plain_words::texts::say;
@@ -65,13 +66,17 @@ pub(crate) fn station_bytes(rt: &HostRuntime, file: &mut [u8]) -> Option<usize>
     let from = STATION * SLOT;
     let past = from + files.path_end(STATION);
     if let Event::Failed = opened {
-        say_unopened(&mut rt.stderr(), &paths[from..past], files.reason());
+        say_unopened(
+            &mut Heedless(rt.stderr()),
+            &paths[from..past],
+            files.reason(),
+        );
         return None;
     }
     let size = start_of(rt, &mut files, &mut paths, file);
     if size.is_none() {
         say_of_file(
-            &mut rt.stderr(),
+            &mut Heedless(rt.stderr()),
             &paths[from..past],
             b" cannot be read.\n",
             files.reason(),

@@ -1,7 +1,7 @@
 #![tactic(auto)]
 // What a program asks for, performed, and what came of it. It is the same for every program. Its contract has the shape of each answer;
 // that the bytes are the files', and reach standard output, no contract can say: what is taken on trust stands in exchange/specs/World.antt.
-ghost use Rattle.std.specs.Prelude.{◌≡◌, ◌≤◌, length, map, replicate, None, IfOk, slice_index_or};
+ghost use Rattle.std.specs.Prelude.{◌≡◌, ◌≤◌, ◌+◌, min, length, map, replicate, None, IfOk, slice_index_or};
 ghost use Rattle.perform.specs.Shape.{Shaped, ShapedArgument, ShapedRead, ShapedDone};
 ghost use Rattle.exchange.specs.World.{Outside};
 
@@ -34,17 +34,20 @@ pub(crate) const TOO_LONG: i32 = 36;
 
 pub(crate) const NO_TEXT: i32 = 84;
 
-// What each argument names, and the system's reason for what failed last.
+// What each argument names, the system's reason for what failed last, and how many actions were performed over them, by which a loop
+// can show that there were no more than its turns.
 #[derive(Drop)]
 pub struct Files<F = File> {
     named: [Named<F>; PLACES],
     reason: Error,
+    performed: u64,
 }
 
 impl<F> Files<F> {
     pub fn new() -> Files<F>
         ensures closed { map (λ n. n.file) result.named ≡ replicate 8 None }
         ensures unknown { map (λ n. n.end) result.named ≡ replicate 8 0 }
+        ensures unused { result.performed ≡ 0 }
     {
         Files {
             named: [
@@ -58,6 +61,7 @@ impl<F> Files<F> {
                 Named::new(),
             ],
             reason: Error::from_raw_os_error(NOTHING_FAILED),
+            performed: 0,
         }
     }
 
@@ -180,8 +184,8 @@ impl<F: Seek> Files<F> {
     }
 }
 
-// One action; `paths` has a slot of 4096 bytes for each argument's path.
-pub fn perform<R: fs::Files + Env + Print>(
+// What came of an action.
+fn came_of<R: fs::Files + Env + Print>(
     rt: &R,
     files: &mut Files<R::File>,
     action: Action,
@@ -206,4 +210,22 @@ pub fn perform<R: fs::Files + Env + Print>(
         Action::Write(size) => files.done(write(rt, size, out)),
         Action::Stop(_) => Event::Failed,
     }
+}
+
+// One action; `paths` has a slot of 4096 bytes for each argument's path.
+pub fn perform<R: fs::Files + Env + Print>(
+    rt: &R,
+    files: &mut Files<R::File>,
+    action: Action,
+    paths: &mut [u8],
+    buf: &mut [u8],
+    out: &[u8],
+) -> Event
+    ensures shaped { Shaped action result buf.old buf.new }
+    ensures counted { files.new.performed ≡ min 18446744073709551615 (files.old.performed + 1) }
+{
+    let performed = files.performed.saturating_add(1);
+    let event = came_of(rt, files, action, paths, buf, out);
+    files.performed = performed;
+    event
 }

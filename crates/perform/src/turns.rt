@@ -51,12 +51,12 @@ pub fn run<P: Decisions, R: fs::Files + Env + Print, W: Write + IsTerminal>(
     buf: &mut [u8],
     out: &mut [u8],
 ) -> Ended<P::State, R::File>
-    ensures { Ends P.opens P.asks P.steps buf.old out.old result.word result.state buf.new out.new }
+    ensures { Ends P.opens P.asks P.steps buf.old out.old result.word result.state result.files.performed buf.new out.new }
 {
     let mut told = 0;
     let mut state = P::begin();
     let mut files = Files::new();
-    for _ in 0..u64::MAX {
+    for turn in 0..u64::MAX {
         let action = P::asked(state);
         if let Action::Stop(word) = action {
             return Ended { word, state, files };

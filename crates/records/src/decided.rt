@@ -13,5 +13,10 @@ fn most_decided(awaited: bool) -> u32
 pub(crate) fn decided_possible(delay: usize, decided: [u32; 60]) -> bool
     ensures { result ≡ decided_possible delay decided }
 {
-    (0..60).all(|i| decided[i] <= most_decided(i < delay))
+    // each is looked at, several at a time: to stop at the first that is not costs more
+    let mut possible = true;
+    for i in 0..60 {
+        possible = possible & (decided[i] <= most_decided(i < delay));
+    }
+    possible
 }

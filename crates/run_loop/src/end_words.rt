@@ -6,6 +6,7 @@ use files::why::say_why;
 use judging::state::SAMPLES;
 use perform::Files;
 use perform::turns::Ended;
+use plain_words::heedless::Heedless;
 use plain_words::texts::say;
 use run_machine::state::Machine;
 use std::fs;
@@ -67,7 +68,13 @@ fn word_of(word: Word) -> &'static [u8] {
 pub(crate) fn say_end(rt: &HostRuntime, ended: Ended<Machine>, paths: &[u8]) {
     let Ended { word, state, files } = ended;
     let held = state.held;
-    say_word(&mut rt.stderr(), word, held.working, &files, paths);
+    say_word(
+        &mut Heedless(rt.stderr()),
+        word,
+        held.working,
+        &files,
+        paths,
+    );
     drop(files);
     if held.told {
         tell(rt, word);

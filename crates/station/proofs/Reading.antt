@@ -22,6 +22,32 @@ part-number s at width number fits w e l =
     let n : min 8 (length (take width (drop at s))) ≡ width = omega (arith, length-take width (drop at s), length-drop at s, fits, w) in
     ((rw k at e) ∙ little-part width 8 (drop at s) w, rw (k, n) at l)
 
+-- a number of one byte more: the byte, and the number from the next byte on
+one_more : (k at : ℕ) (s : List ℕ) → at < length s → little (suc k) (drop at s) ≡ get_or s at 0 + 256 * little k (drop (at + 1) s)
+one_more k at s h = let e : at + 1 ≡ suc at = omega arith in rw e (little-turn k at s h)
+
+-- a number of 4 bytes, from one place
+pub four_bytes : (s : List ℕ) (at : ℕ) → at + 4 ≤ length s
+    → little 4 (drop at s) ≡ get_or s at 0 + 256 * (get_or s (at + 1) 0 + 256 * (get_or s (at + 2) 0 + 256 * get_or s (at + 3) 0))
+unfolding little
+four_bytes s at h =
+    let z : little 0 (drop (at + 4) s) ≡ 0 = refl in
+    omega (arith, one_more 3 at s (omega arith), next 2 1 (omega arith), next 1 2 (omega arith), next 0 3 (omega arith), z)
+  where
+    next : (k j : ℕ) → at + j < length s → little (suc k) (drop (at + j) s) ≡ get_or s (at + j) 0 + 256 * little k (drop (at + (j + 1)) s)
+    next k j l = let e : at + j + 1 ≡ at + (j + 1) = omega arith in rw e at (one_more k (at + j) s l)
+
+-- a number of 8 bytes, from one place
+pub eight_bytes : (s : List ℕ) (at : ℕ) → at + 8 ≤ length s
+    → little 8 (drop at s) ≡ get_or s at 0 + 256 * (get_or s (at + 1) 0 + 256 * (get_or s (at + 2) 0 + 256 * (get_or s (at + 3) 0 + 256 * (get_or s (at + 4) 0 + 256 * (get_or s (at + 5) 0 + 256 * (get_or s (at + 6) 0 + 256 * get_or s (at + 7) 0))))))
+unfolding little
+eight_bytes s at h =
+    let z : little 0 (drop (at + 8) s) ≡ 0 = refl in
+    omega (arith, one_more 7 at s (omega arith), next 6 1 (omega arith), next 5 2 (omega arith), next 4 3 (omega arith), next 3 4 (omega arith), next 2 5 (omega arith), next 1 6 (omega arith), next 0 7 (omega arith), z)
+  where
+    next : (k j : ℕ) → at + j < length s → little (suc k) (drop (at + j) s) ≡ get_or s (at + j) 0 + 256 * little k (drop (at + (j + 1)) s)
+    next k j l = let e : at + j + 1 ≡ at + (j + 1) = omega arith in rw e at (one_more k (at + j) s l)
+
 -- the number at place j of numbers one after the other
 littles-at : (width count j : ℕ) (s : List ℕ) → j < count → get_or (littles width count s) j 0 ≡ little width (drop (width * j) s)
 unfolding littles

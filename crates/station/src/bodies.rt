@@ -51,7 +51,7 @@ fn battery_of(s: &[u8]) -> Battery
 
 // The row's number of the first pair, and of each other pair, of the pairs that start at a place.
 fn pairs_from(s: &[u8], pairs: usize, row: Field) -> [u32; layout::PAIRS]
-    requires { (pairs + row.offset + 32 + row.width ≤ length s.now) × (row.width ≤ 4) }
+    requires { (pairs + row.offset + 32 + row.width ≤ length s.now) × (row.width ≡ 4) }
     ensures { result ≡ little row.width (drop (pairs + row.offset) s.now) ∷ little row.width (drop (pairs + 8 + row.offset) s.now) ∷ little row.width (drop (pairs + 16 + row.offset) s.now) ∷ little row.width (drop (pairs + 24 + row.offset) s.now) ∷ little row.width (drop (pairs + 32 + row.offset) s.now) ∷ [] }
 {
     [

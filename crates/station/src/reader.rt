@@ -1,7 +1,7 @@
 // The station file: its bytes become a record, or the first refusal.
 ghost use Rattle.std.specs.Prelude.{◌≡◌};
 ghost use Rattle.rules.specs.Answers.{result_of};
-ghost use Rattle.rules.specs.StationRecord.{no_station};
+ghost use Rattle.rules.specs.StationRecord.{no_station, values_right};
 ghost use Rattle.rules.specs.StationFile.{station_file};
 
 use crate::bodies::{no_set, record_of};
@@ -43,12 +43,20 @@ pub fn no_station() -> Station
     }
 }
 
+// Apart, so that the checks read the record where it is.
+#[inline(never)]
+fn record_right(station: Station) -> Result<(), Refusal>
+    ensures { result_of result ≡ values_right station }
+{
+    values_right(station)
+}
+
 // The record that a file gives, or the first refusal.
 pub fn read_station(s: &[u8]) -> Result<Station, Refusal>
     ensures { result_of result ≡ station_file s.now }
 {
     contents_right(s)?;
     let station = record_of(s);
-    values_right(station)?;
+    record_right(station)?;
     Ok(station)
 }

@@ -37,7 +37,12 @@ fn sets_unused(sets: [GenSet; ranges::SETS_MOST], from: usize) -> bool
 fn configurations_unused(configs: [u8; ranges::CONFIGURATIONS_MOST], from: usize) -> bool
     ensures { result ≡ all_zero (drop from configs) }
 {
-    configs.iter().skip(from).all(|mask| *mask == 0)
+    // each is looked at, several at a time: to stop at the first that is not costs more
+    let mut unused = true;
+    for i in from..ranges::CONFIGURATIONS_MOST {
+        unused = unused & (configs[i] == 0);
+    }
+    unused
 }
 
 pub fn some_file_gives(st: Station) -> bool
